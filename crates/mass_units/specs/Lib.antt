@@ -1,0 +1,4 @@
+pub mod Spelling
+pub mod Rounding
+pub mod PercentMac
+pub mod Line

@@ -1,9 +1,22 @@
-//! The units of the load control office: whole kilograms, and index ticks of 1/100000 index unit.
+//! The units of the load control office: whole kilograms, and index ticks of 1/100000 index unit. Here
+//! stand their texts, straight lines from mass to index, and the percent of the mean aerodynamic chord.
 #![tactic(auto)]
 
 ghost use Rattle.std.specs.Prelude.{◌+◌, ◌<◌, ◌^◌, ◌+ℤ◌, FitsSigned};
 ghost use Rattle.std.specs.Int.{w64};
 ghost use Rattle.std.specs.Option.{SomeIff};
+
+mod chord;
+mod line;
+mod spelling;
+mod wide;
+
+pub use chord::{Chord, mac_hundredths};
+pub use line::Line;
+pub use spelling::{
+    NumFault, read_number, read_signed, read_ticks5, write_number, write_signed, write_ticks2,
+    write_ticks5,
+};
 
 /// A mass in whole kilograms.
 #[derive(Clone, Copy, Debug, PartialEq, Eq, PartialOrd, Ord)]
@@ -28,5 +41,21 @@ impl Ticks {
         ensures { SomeIff result (FitsSigned w64 (self.0 +ℤ other.0)) (record { 0 = self.0 +ℤ other.0 }) }
     {
         Some(Ticks(self.0.checked_add(other.0)?))
+    }
+}
+
+#[cfg(test)]
+mod tests {
+    use super::*;
+
+    #[test]
+    fn sums_stay_in_the_type(rt: HostRuntime) {
+        assert_eq!(rt; Kg(42_000).plus(Kg(580)), Some(Kg(42_580)));
+        assert_eq!(rt; Kg(u32::MAX).plus(Kg(1)), None);
+        assert_eq!(rt;
+            Ticks(5_000_000).plus(Ticks(-2_000)),
+            Some(Ticks(4_998_000))
+        );
+        assert_eq!(rt; Ticks(i64::MIN).plus(Ticks(-1)), None);
     }
 }

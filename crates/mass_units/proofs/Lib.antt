@@ -1,0 +1,4 @@
+pub mod SpellingLemmas
+mod Reading
+pub mod LineLemmas
+pub mod ChainLemmas
