@@ -1,0 +1,5 @@
+pub mod Calls
+pub mod Sink
+pub mod MemorySink
+pub mod Shelf
+pub mod MemoryShelf
