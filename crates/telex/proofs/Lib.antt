@@ -1,0 +1,4 @@
+pub mod Cuts
+pub mod LineLaws
+pub mod PartLaws
+pub mod WrittenLaws

@@ -1,0 +1,272 @@
+//! Reading a message: the judgement over its text, its lines, and the parts of a line.
+ghost use Rattle.std.specs.Prelude.{◌≡◌, ℕ, ◌+◌, ◌<◌, ◌≤◌, ◌^◌, ◌↔◌, List, length, All, IsOk, IfOk, IfSome, IsTrue, MatchOption};
+ghost use Rattle.std.specs.Iterator.{YieldsFirstBy, item_count};
+ghost use Rattle.std.specs.List.{position};
+ghost use Rattle.telex.specs.Lines.{PlacedLine, lines_of, AreLinesOf, IsPrintable};
+ghost use Rattle.telex.specs.Parts.{PlacedPart, is_separator, parts_of, ArePartsOf};
+ghost use Rattle.telex.specs.declared.reading.TelexFault.{TelexFault};
+ghost use Rattle.telex.specs.Text.{is_foreign, is_line_feed, bad_byte, long_line, IsEnded, IsTelex, IsRefusedWith};
+
+use std::marker::Model;
+
+/// The byte that ends each line.
+pub const LINE_FEED: u8 = b'\n';
+
+/// The bytes of the longest line, without its line feed.
+pub const LONGEST_LINE: usize = 200;
+
+/// The first of the two bytes that part the elements of a line.
+pub const DOT: u8 = b'.';
+
+/// The second of the two bytes that part the elements of a line.
+pub const SLASH: u8 = b'/';
+
+/// Why a text is no message. The first reason in this order is given.
+#[derive(Clone, Copy, Debug, PartialEq, Eq)]
+pub enum TelexFault {
+    /// The place, counted from 0, of the first byte that is neither a line feed nor printable ASCII.
+    BadByte(usize),
+    /// The number, counted from 1, of the first line of more than [`LONGEST_LINE`] bytes.
+    LineTooLong(usize),
+    /// The text is empty, or its last byte is no line feed.
+    NoEnd,
+}
+
+/// A text that was judged and can be read line by line.
+#[derive(Debug, Drop)]
+pub struct Message<'a> {
+    text: &'a [u8],
+}
+
+impl<'a> Model for Message<'a> {
+    ghost use Rattle.std.specs.Prelude.{List, ℕ};
+
+    ghost Value = { List ℕ };
+
+    ghost use Rattle.telex.specs.Text.{IsTelex};
+
+    ghost view = { λ message. message.text.now };
+
+    ghost invariant = { λ message. IsTelex message.text.now };
+}
+
+fn is_foreign(byte: u8) -> bool
+    ensures { result ≡ is_foreign byte }
+{
+    byte != LINE_FEED && !(b' '..=b'~').contains(&byte)
+}
+
+fn bad_byte(text: &[u8]) -> Option<usize>
+    ensures { result ≡ bad_byte text.now }
+{
+    text.iter().position(|byte| is_foreign(*byte))
+}
+
+fn long_line(text: &[u8]) -> Option<usize>
+    ensures { result ≡ long_line text.now }
+{
+    text.split(|byte| *byte == LINE_FEED)
+        .position(|line| line.len() > LONGEST_LINE)
+        .map(|index| index + 1)
+}
+
+fn is_ended(text: &[u8]) -> bool
+    ensures { IsTrue result ↔ IsEnded text.now }
+{
+    text.last() == Some(&LINE_FEED)
+}
+
+fn fault_in(text: &[u8]) -> Option<TelexFault>
+    ensures { MatchOption result (IsTelex text.now) (IsRefusedWith text.now) }
+{
+    if let Some(at) = bad_byte(text) {
+        return Some(TelexFault::BadByte(at));
+    }
+    if let Some(line) = long_line(text) {
+        return Some(TelexFault::LineTooLong(line));
+    }
+    if is_ended(text) {
+        None
+    } else {
+        Some(TelexFault::NoEnd)
+    }
+}
+
+/// Judges a text, and hands it back as a message that can be read. It takes no memory.
+pub fn cut(text: &[u8]) -> Result<Message<'_>, TelexFault>
+    ensures message { IfOk result (λ message. message ≡ text.now) }
+    ensures accepted { IsOk result ↔ IsTelex text.now }
+    ensures refused { (fault : TelexFault) → (result ≡ Err fault) ↔ IsRefusedWith text.now fault }
+{
+    match fault_in(text) {
+        Some(fault) => Err(fault),
+        None => Ok(Message { text }),
+    }
+}
+
+impl<'a> Message<'a> {
+    /// The lines in order, each without its line feed. The items are slices of the text.
+    pub fn lines(&self) -> Lines<'a>
+        ensures lines { result ≡ lines_of self.now }
+        ensures cut { AreLinesOf self.now result }
+        ensures only { (others : List PlacedLine) → AreLinesOf self.now others → others ≡ result }
+        ensures few { length result < 2 ^ 64 }
+        ensures short { All (λ line. length line.text ≤ LONGEST_LINE) result }
+        ensures printable { All (λ line. All IsPrintable line.text) result }
+    {
+        Lines {
+            rest: self.text,
+            at: 0,
+        }
+    }
+}
+
+/// The lines of a message, in order.
+#[derive(Debug, Drop)]
+pub struct Lines<'a> {
+    rest: &'a [u8],
+    at: usize,
+}
+
+impl<'a> Model for Lines<'a> {
+    ghost use Rattle.std.specs.Prelude.{List, ◌+◌, ◌<◌, ◌^◌, length};
+    ghost use Rattle.telex.specs.Lines.{PlacedLine, lines_from};
+
+    ghost Value = { List PlacedLine };
+
+    ghost view = { λ lines. lines_from lines.at lines.rest.now };
+
+    ghost invariant = { λ lines. lines.at + length lines.rest.now < 2 ^ 64 };
+}
+
+fn line_end(rest: &[u8]) -> Option<usize>
+    ensures { result ≡ position is_line_feed rest.now }
+{
+    rest.iter().position(|byte| *byte == LINE_FEED)
+}
+
+impl<'a> Iterator for Lines<'a> {
+    type Item = Line<'a>;
+
+    ghost use Rattle.telex.specs.Items.{placed_line};
+
+    ghost next_gives = { YieldsFirstBy placed_line (λ lines. lines) };
+
+    ghost remaining = { item_count (λ lines. lines) };
+
+    fn next(&mut self) -> Option<Line<'a>> {
+        let rest = self.rest;
+        let at = self.at;
+        let end = line_end(rest)?;
+        self.rest = &rest[end + 1..];
+        self.at = at + end + 1;
+        Some(Line {
+            text: &rest[..end],
+            at,
+        })
+    }
+}
+
+/// A line of a message.
+#[derive(Clone, Copy, Debug, PartialEq, Eq)]
+pub struct Line<'a> {
+    /// The bytes without the line feed.
+    pub text: &'a [u8],
+    /// How many bytes of the message stand before the line.
+    pub at: usize,
+    // The place behind its line feed can still be counted.
+    pub ghost countable: { at + length text.now + 1 < 2 ^ 64 },
+}
+
+impl<'a> Line<'a> {
+    ghost use Rattle.telex.specs.Items.{placed_line};
+
+    /// The parts in order, cut at each dot and slash. A line with neither is a single part.
+    pub fn elements(&self) -> Elements<'a>
+        ensures parts { result ≡ parts_of (placed_line self.now) }
+        ensures cut { ArePartsOf (placed_line self.now) result }
+        ensures only { (others : List PlacedPart)
+            → ArePartsOf (placed_line self.now) others → others ≡ result }
+        ensures few { length result < 2 ^ 64 }
+    {
+        Elements {
+            rest: Some(self.text),
+            before: 0,
+            at: self.at,
+        }
+    }
+}
+
+/// What stands between two separators of a line.
+#[derive(Clone, Copy, Debug, PartialEq, Eq)]
+pub struct Part<'a> {
+    /// The separator before the part, 0 for the first of a line.
+    pub before: u8,
+    /// The bytes, which may be none.
+    pub text: &'a [u8],
+    /// How many bytes of the message stand before the part.
+    pub at: usize,
+}
+
+/// The parts of a line, in order.
+#[derive(Debug, Drop)]
+pub struct Elements<'a> {
+    // What no part was made of yet; none behind the last part.
+    rest: Option<&'a [u8]>,
+    before: u8,
+    at: usize,
+}
+
+impl<'a> Model for Elements<'a> {
+    ghost use Rattle.std.specs.Prelude.{List, ◌+◌, ◌<◌, ◌^◌, length, IfSome};
+    ghost use Rattle.telex.specs.Parts.{PlacedPart, parts_left};
+
+    ghost Value = { List PlacedPart };
+
+    ghost view = { λ elements. parts_left elements.before elements.at elements.rest };
+
+    ghost invariant = { λ elements.
+        IfSome elements.rest (λ rest. elements.at + length rest.now < 2 ^ 64) };
+}
+
+fn part_end(rest: &[u8]) -> Option<usize>
+    ensures { result ≡ position is_separator rest.now }
+{
+    rest.iter().position(|byte| matches!(*byte, DOT | SLASH))
+}
+
+impl<'a> Iterator for Elements<'a> {
+    type Item = Part<'a>;
+
+    ghost use Rattle.telex.specs.Items.{placed_part};
+
+    ghost next_gives = { YieldsFirstBy placed_part (λ elements. elements) };
+
+    ghost remaining = { item_count (λ elements. elements) };
+
+    fn next(&mut self) -> Option<Part<'a>> {
+        let rest = self.rest?;
+        let before = self.before;
+        let at = self.at;
+        match part_end(rest) {
+            Some(end) => {
+                self.before = rest[end];
+                self.at = at + end + 1;
+                self.rest = Some(&rest[end + 1..]);
+                Some(Part {
+                    before,
+                    text: &rest[..end],
+                    at,
+                })
+            }
+            None => {
+                self.rest = None;
+                Some(Part {
+                    before,
+                    text: rest,
+                    at,
+                })
+            }
+        }
+    }
+}
