@@ -1,0 +1,3 @@
+pub mod FitsLoadLemmas
+mod IndexLemmas
+mod OptionLemmas
