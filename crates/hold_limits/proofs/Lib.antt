@@ -1,0 +1,11 @@
+pub mod BranchOrderLemmas
+pub mod PlacedLemmas
+pub mod KeyOrder
+pub mod SoundLemmas
+pub mod EnumerationLemmas
+pub mod OneOrder
+pub mod PairLemmas
+pub mod FaultLemmas
+pub mod LawfulBounds
+pub mod MomentLemmas
+pub mod DistanceLemmas

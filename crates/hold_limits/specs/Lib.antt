@@ -1,0 +1,8 @@
+pub mod Spellings
+pub mod Layout
+pub mod Problem
+pub mod BranchOrder
+pub mod Placement
+pub mod Faults
+pub mod Group
+pub mod Enumeration

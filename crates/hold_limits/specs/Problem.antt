@@ -1,0 +1,29 @@
+-- a loading task as contracts see it
+use Rattle.std.specs.Prelude.{ℤ, List}
+use Rattle.hold_limits.specs.Layout.{Layout}
+use Rattle.hold_limits.specs.declared.parts.Indices.{Indices}
+use Rattle.hold_limits.specs.declared.parts.Item.{Item}
+use Rattle.hold_limits.specs.declared.parts.Loose.{Loose}
+
+-- a hold, the containers in the order of the offer, the loose loads, the base index, the window for the hold index, and the ideal band for the take-off index, all indices in ticks
+pub record Problem : Type 0 where
+  pub hold : Layout
+  pub items : List Item
+  pub loose : List Loose
+  pub base : ℤ
+  pub low : ℤ
+  pub high : ℤ
+  pub ideal_low : ℤ
+  pub ideal_high : ℤ
+
+abbrev pub problem_of : Layout → List Item → List Loose → Indices → Problem
+problem_of hold items loose at = record {
+  hold = hold;
+  items = items;
+  loose = loose;
+  base = at.base.0;
+  low = at.low.0;
+  high = at.high.0;
+  ideal_low = at.ideal_low.0;
+  ideal_high = at.ideal_high.0;
+}

@@ -1,0 +1,154 @@
+ghost use Rattle.std.specs.Prelude.{◌≡◌, ◌<◌, IfOk, IfErr, Some, None, length, slice_get};
+ghost use Rattle.hold_limits.specs.BranchOrder.{order_of, ordered};
+ghost use Rattle.hold_limits.specs.Problem.{problem_of};
+ghost use Rattle.hold_limits.specs.Faults.{IsLawful, task_fault};
+
+use crate::branch_order::{branch_order, item_at};
+use crate::fault::TaskFault;
+use crate::hold::Hold;
+use crate::parts::{Indices, Item, Loose};
+use crate::task_faults::fault_of_task;
+use arrayvec::ArrayVec;
+use mass_units::Ticks;
+use std::marker::Model;
+
+/// Position numbers for the first containers of branch order, one for each.
+pub type Path = ArrayVec<u8, 60>;
+
+/// A lawful loading task: a hold, an offer of containers, loose loads, and the indices to meet.
+#[derive(Debug, Drop)]
+pub struct Task {
+    hold: Hold,
+    items: Vec<Item>,
+    loose: Vec<Loose>,
+    indices: Indices,
+    order: ArrayVec<u8, 60>,
+}
+
+impl Model for Task {
+    ghost use Rattle.std.specs.Prelude.{◌≡◌};
+    ghost use Rattle.hold_limits.specs.Problem.{Problem};
+
+    ghost Value = { Problem };
+
+    ghost use Rattle.hold_limits.specs.BranchOrder.{order_of};
+    ghost use Rattle.hold_limits.specs.Problem.{problem_of};
+    ghost use Rattle.hold_limits.specs.Faults.{IsLawful};
+
+    ghost view = { λ t. problem_of t.hold t.items.items t.loose.items t.indices };
+
+    ghost invariant = { λ t. IsLawful (problem_of t.hold t.items.items t.loose.items t.indices) × (t.order.items ≡ order_of t.items.items) };
+}
+
+impl Task {
+    /// The task with these parts. Where `low` is over `high`, nothing is admissible.
+    pub fn new(
+        hold: Hold,
+        items: Vec<Item>,
+        loose: Vec<Loose>,
+        base: Ticks,
+        low: Ticks,
+        high: Ticks,
+        ideal_low: Ticks,
+        ideal_high: Ticks,
+    ) -> Result<Task, TaskFault>
+        ensures made { IfOk result (λ task. task ≡ problem_of hold items.items loose.items record { base = base; low = low; high = high; ideal_low = ideal_low; ideal_high = ideal_high }) }
+        ensures lawful { IfOk result (λ task. IsLawful task) }
+        ensures refused { IfErr result (λ fault. task_fault (problem_of hold items.items loose.items record { base = base; low = low; high = high; ideal_low = ideal_low; ideal_high = ideal_high }) ≡ Some fault) }
+    {
+        let indices = Indices {
+            base,
+            low,
+            high,
+            ideal_low,
+            ideal_high,
+        };
+        if let Some(fault) = fault_of_task(&hold, &items, &loose, indices) {
+            return Err(fault);
+        }
+        let order = branch_order(&items);
+        Ok(Task {
+            hold,
+            items,
+            loose,
+            indices,
+            order,
+        })
+    }
+
+    /// The hold.
+    pub fn hold(&self) -> &Hold
+        ensures value { result.now ≡ self.now.hold }
+        ensures lawful { IsLawful self.now }
+    {
+        &self.hold
+    }
+
+    /// The containers, in the order of the offer.
+    pub fn items(&self) -> &[Item]
+        ensures value { result.now ≡ self.now.items }
+        ensures lawful { IsLawful self.now }
+    {
+        self.items.as_slice()
+    }
+
+    /// The loose loads.
+    pub fn loose(&self) -> &[Loose]
+        ensures value { result.now ≡ self.now.loose }
+        ensures lawful { IsLawful self.now }
+    {
+        self.loose.as_slice()
+    }
+
+    /// The places of the offer in branch order: heaviest first, equal masses in the order of the offer.
+    pub fn order(&self) -> &[u8]
+        ensures value { result.now ≡ order_of self.now.items }
+        ensures lawful { IsLawful self.now }
+    {
+        self.order.as_slice()
+    }
+
+    /// The container at this rank of branch order, counted from 0.
+    pub fn at_rank(&self, rank: usize) -> &Item
+        requires { rank < length self.now.items }
+        ensures value { slice_get (ordered self.now.items) rank ≡ Some result.now }
+        ensures lawful { IsLawful self.now }
+    {
+        item_at(self.items.as_slice(), self.order.as_slice(), rank)
+    }
+
+    /// The take-off index without the hold index, in ticks.
+    pub fn base(&self) -> Ticks
+        ensures value { result.0 ≡ self.now.base }
+    {
+        self.indices.base
+    }
+
+    /// The least hold index of the window, in ticks.
+    pub fn low(&self) -> Ticks
+        ensures value { result.0 ≡ self.now.low }
+    {
+        self.indices.low
+    }
+
+    /// The greatest hold index of the window, in ticks.
+    pub fn high(&self) -> Ticks
+        ensures value { result.0 ≡ self.now.high }
+    {
+        self.indices.high
+    }
+
+    /// The least take-off index of the ideal band, in ticks.
+    pub fn ideal_low(&self) -> Ticks
+        ensures value { result.0 ≡ self.now.ideal_low }
+    {
+        self.indices.ideal_low
+    }
+
+    /// The greatest take-off index of the ideal band, in ticks.
+    pub fn ideal_high(&self) -> Ticks
+        ensures value { result.0 ≡ self.now.ideal_high }
+    {
+        self.indices.ideal_high
+    }
+}

@@ -1,0 +1,59 @@
+// Small texts and lists, judged by a person.
+use super::*;
+use mass_units::Kg;
+use std::test::Fail;
+
+#[test]
+fn names_have_one_to_three_capitals_and_digits(rt: HostRuntime) -> Result<(), Fail> {
+    for text in [b"1".as_slice(), b"A", b"11L", b"42", b"ZZ9"] {
+        let name = Name::read(text).ok_or("a name")?;
+        assert_eq!(rt; name.bytes(), text);
+    }
+    for text in [b"".as_slice(), b"1234", b"a", b"1-", b" 1"] {
+        assert!(rt; Name::read(text).is_none(), "{text:?}");
+    }
+    Ok(())
+}
+
+#[test]
+fn identities_have_a_kind_a_serial_and_an_owner(rt: HostRuntime) -> Result<(), Fail> {
+    for (text, kind) in [
+        (b"AKE1234XX".as_slice(), b"AKE"),
+        (b"PMC12345LH", b"PMC"),
+        (b"AKE12345X9", b"AKE"),
+    ] {
+        let id = UldId::read(text).ok_or("an identity")?;
+        assert_eq!(rt; id.bytes(), text);
+        assert_eq!(rt; id.kind(), kind.as_slice());
+        assert!(rt; is_kind(id.kind()));
+    }
+    for text in [
+        b"".as_slice(),
+        b"AKE123XX",
+        b"AKE123456XX",
+        b"AK11234XX",
+        b"ake1234XX",
+        b"AKE12A4XX",
+        b"AKE1234X-",
+    ] {
+        assert!(rt; UldId::read(text).is_none(), "{text:?}");
+    }
+    Ok(())
+}
+
+#[test]
+fn lists_come_from_vectors_and_go_back(rt: HostRuntime) -> Result<(), Fail> {
+    let places = Places::from(vec![in rt.alloc(); 1, 2, 4]?);
+    assert_eq!(rt; places.as_slice(), [1, 2, 4].as_slice());
+    assert_eq!(rt; Vec::from(places).as_slice(), [1, 2, 4].as_slice());
+    let fits = Fits::from(vec![in rt.alloc();
+        Fit {
+            kind: *b"AKE",
+            most: Kg(1500)
+        },
+    ]?);
+    assert_eq!(rt; fits.as_slice().len(), 1);
+    let list: Vec<Fit> = fits.into();
+    assert_eq!(rt; list.len(), 1);
+    Ok(())
+}
