@@ -1,0 +1,45 @@
+-- no word of a task holds a space or the end of a line
+use Rattle.std.proofs.Common.{◌≡◌, ℕ, ◌-◌, ◌+◌, ◌<◌, ◌≤◌, false, eqb, List, ◌∷◌, ◌++◌, length, take, drop, sym, ◌∙◌, ap, arith, slice_range, ⊎_elim}
+use Rattle.std.proofs.lemmas.Bool.{ne_eqb}
+use Rattle.std.proofs.lemmas.List.{take-append-drop, drop-drop}
+use Rattle.std.proofs.lemmas.List.Elements.{All-weaker, All-append, All-cons, All-same}
+use Rattle.hold_limits.specs.Spellings.{IsCapital, IsDigit, IsCapitalOrDigit, IsName, IsKind, IsUldId}
+use Rattle.problem_text.specs.Cuts.{Avoids}
+
+capital_avoids : (k c : ℕ) → k < 45 → IsCapital c → eqb c k ≡ false
+capital_avoids k c low h = ne_eqb c k (λ e. omega arith)
+
+digit_avoids : (k c : ℕ) → k < 45 → IsDigit c → eqb c k ≡ false
+digit_avoids k c low h = ne_eqb c k (λ e. omega arith)
+
+letter_avoids : (k c : ℕ) → k < 45 → IsCapitalOrDigit c → eqb c k ≡ false
+letter_avoids k c low h = ⊎_elim (λ (a : IsCapital c). capital_avoids k c low a) (λ (b : IsDigit c). digit_avoids k c low b) h
+
+pub name_avoids : (k : ℕ) (name : List ℕ) → k < 45 → IsName name → Avoids k name
+name_avoids k name low h = All-weaker IsCapitalOrDigit (λ b. eqb b k ≡ false) (λ c g. letter_avoids k c low g) name h.letters
+
+pub kind_avoids : (k : ℕ) (kind : List ℕ) → k < 45 → IsKind kind → Avoids k kind
+kind_avoids k kind low h = All-weaker IsCapital (λ b. eqb b k ≡ false) (λ c g. capital_avoids k c low g) kind h.letters
+
+-- a text in three parts
+in_three : (text : List ℕ) (a b : ℕ) → a ≤ b → text ≡ take a text ++ (slice_range text a b ++ drop b text)
+in_three text a b le =
+    let back : drop b text ≡ drop (b - a) (drop a text) = let at : a + (b - a) ≡ b = omega arith in sym (drop-drop (b - a) a text ∙ ap (λ n. drop n text) at) in
+    let rest : slice_range text a b ++ drop b text ≡ drop a text = rw back (take-append-drop (b - a) (drop a text)) in
+    sym (ap (λ xs. take a text ++ xs) rest ∙ take-append-drop a text)
+
+pub id_avoids : (k : ℕ) (id : List ℕ) → k < 45 → IsUldId id → Avoids k id
+id_avoids k id low h =
+    let P : ℕ → Type 0 = λ b. eqb b k ≡ false in
+    let kind = All-weaker IsCapital P (λ c g. capital_avoids k c low g) (take 3 id) h.kind in
+    let serial = All-weaker IsDigit P (λ c g. digit_avoids k c low g) (slice_range id 3 (length id - 2)) h.serial in
+    let owner = All-weaker IsCapitalOrDigit P (λ c g. letter_avoids k c low g) (drop (length id - 2) id) h.owner in
+    let short : 9 ≤ length id = h.short in
+    All-same P id (take 3 id ++ (slice_range id 3 (length id - 2) ++ drop (length id - 2) id)) (in_three id 3 (length id - 2) (omega arith)) (All-append P (take 3 id) (slice_range id 3 (length id - 2) ++ drop (length id - 2) id) kind (All-append P (slice_range id 3 (length id - 2)) (drop (length id - 2) id) serial owner))
+
+pub avoids-append : (k : ℕ) (xs ys : List ℕ) → Avoids k xs → Avoids k ys → Avoids k (xs ++ ys)
+avoids-append k xs ys p q = All-append (λ b. eqb b k ≡ false) xs ys p q
+
+-- two texts with a space between them
+pub avoids-spaced : (k : ℕ) (xs ys : List ℕ) → eqb 32 k ≡ false → Avoids k xs → Avoids k ys → Avoids k (xs ++ 32 ∷ ys)
+avoids-spaced k xs ys s p q = avoids-append k xs (32 ∷ ys) p (All-cons (λ b. eqb b k ≡ false) 32 ys s q)
