@@ -1,0 +1,37 @@
+-- texts of lines, put together
+use Rattle.std.proofs.Common.{◌≡◌, ℕ, ◌+◌, ◌<◌, ◌≤◌, List, [], ◌∷◌, ◌++◌, length, get_or, take, Some, refl, ap, ap₂, sym, ◌∙◌, append_assoc}
+use Rattle.std.proofs.lemmas.List.{map-append}
+use Rattle.std.specs.Prelude.{slice_get, codes, pos}
+use Rattle.mass_units.specs.Spelling.{index_text}
+use Rattle.hold_limits.specs.declared.parts.Item.{Item}
+use Rattle.hold_limits.specs.Problem.{Problem}
+use Rattle.hold_limits.specs.BranchOrder.{ordered}
+use Rattle.hold_limits.specs.Placement.{placed, take_off_index, distance}
+use Rattle.hold_limits.proofs.PlacedLemmas.{take-placed_more}
+use Rattle.problem_text.specs.TaskText.{line_of, text_of}
+use Rattle.loadctl.specs.AnswerText.{one_line, place_line, place_lines, plan_text}
+
+pub text_of-append : (a b : List (List ℕ)) → text_of (a ++ b) ≡ text_of a ++ text_of b
+text_of-append [] b = refl
+text_of-append (line ∷ a) b = ap (λ rest. line ++ 10 ∷ rest) (text_of-append a b) ∙ sym (append_assoc line (10 ∷ text_of a) (text_of b))
+
+-- the lines of one container more
+pub place_lines-more : (t : Problem) (path : List ℕ) (rank : ℕ) (item : Item) → length path ≤ length t.items → rank < length path → slice_get (ordered t.items) rank ≡ Some item
+    → text_of (place_lines t (take (rank + 1) (placed t path))) ≡ text_of (place_lines t (take rank (placed t path))) ++ text_of (place_line t.hold (item, get_or path rank 0) ∷ [])
+place_lines-more t path rank item short within there =
+    ap (λ ps. text_of (place_lines t ps)) (take-placed_more t path rank _ item short within there refl)
+    ∙ ap text_of (map-append (place_line t.hold) (take rank (placed t path)) ((item, get_or path rank 0) ∷ []))
+    ∙ text_of-append (place_lines t (take rank (placed t path))) (place_line t.hold (item, get_or path rank 0) ∷ [])
+
+-- the plan's text, as it is put together
+pub plan_text-is : (t : Problem) (path : List ℕ)
+    → plan_text t path
+    ≡ one_line (codes "PLAN" ∷ []) ++ text_of (place_lines t (placed t path)) ++ one_line (codes "index" ∷ index_text (take_off_index t path) ∷ []) ++ one_line (codes "distance" ∷ index_text (pos (distance t path)) ∷ [])
+plan_text-is t path =
+    let plan : List (List ℕ) = codes "PLAN" ∷ [] in
+    let places = place_lines t (placed t path) in
+    let index = line_of (codes "index" ∷ index_text (take_off_index t path) ∷ []) in
+    let far = line_of (codes "distance" ∷ index_text (pos (distance t path)) ∷ []) in
+    text_of-append (plan ++ places) (index ∷ far ∷ [])
+    ∙ ap₂ (λ a b. a ++ b) (text_of-append plan places) (text_of-append (index ∷ []) (far ∷ []))
+    ∙ sym (append_assoc (text_of plan ++ text_of places) (text_of (index ∷ [])) (text_of (far ∷ [])))

@@ -1,0 +1,99 @@
+-- what the program prints
+use Rattle.std.specs.Prelude.{◌≡◌, ℕ, ◌<◌, ◌≤◌, ◌⊎◌, pos, List, [], ◌∷◌, ◌++◌, length, map, codes, slice_get, Some, None}
+use Rattle.std.specs.Option.{option_map_or}
+use Rattle.mass_units.specs.Spelling.{number_text, index_text}
+use Rattle.hold_limits.specs.declared.parts.Position.{Position}
+use Rattle.hold_limits.specs.declared.fault.HoldFault.{HoldFault}
+use Rattle.hold_limits.specs.declared.fault.HoldFault.TheVariants as hold
+use Rattle.hold_limits.specs.declared.fault.TaskFault.{TaskFault}
+use Rattle.hold_limits.specs.declared.fault.TaskFault.TheVariants as task
+use Rattle.hold_limits.specs.Layout.{Layout}
+use Rattle.hold_limits.specs.Problem.{Problem}
+use Rattle.hold_limits.specs.Placement.{Placed, placed, take_off_index, distance}
+use Rattle.hold_limits.specs.Faults.{hold_fault, task_fault}
+use Rattle.problem_text.specs.TaskText.{line_of, text_of, Spells}
+
+-- one line of these words
+abbrev pub one_line : List (List ℕ) → List ℕ
+one_line words = text_of (line_of words ∷ [])
+
+-- the name of a position by its number
+abbrev pub name_at : Layout → ℕ → List ℕ
+name_at hold q = option_map_or (λ (place : Position). place.name) (slice_get hold.positions q) []
+
+-- `place ID NAME`: a container and its position
+abbrev pub place_line : Layout → Placed → List ℕ
+place_line hold p = line_of (codes "place" ∷ p.0.id ∷ name_at hold p.1 ∷ [])
+
+abbrev pub place_lines : Problem → List Placed → List (List ℕ)
+place_lines t containers = map (place_line t.hold) containers
+
+-- a plan: its containers in branch order with their positions, the take-off index and its distance from the ideal
+abbrev pub plan_lines : Problem → List ℕ → List (List ℕ)
+plan_lines t path =
+    (codes "PLAN" ∷ [])
+    ++ place_lines t (placed t path)
+    ++ (line_of (codes "index" ∷ index_text (take_off_index t path) ∷ []) ∷ line_of (codes "distance" ∷ index_text (pos (distance t path)) ∷ []) ∷ [])
+
+abbrev pub plan_text : Problem → List ℕ → List ℕ
+plan_text t path = text_of (plan_lines t path)
+
+abbrev pub none_text : List ℕ
+none_text = one_line (codes "NONE" ∷ [])
+
+abbrev pub budget_text : ℕ → List ℕ
+budget_text budget = one_line (codes "BUDGET" ∷ number_text budget ∷ [])
+
+abbrev pub usage_text : List ℕ
+usage_text = one_line (codes "USAGE" ∷ [])
+
+-- a line that says what is wrong with the input: its kind and a number
+abbrev pub input_text : List ℕ → ℕ → List ℕ
+input_text kind n = one_line (codes "INPUT" ∷ kind ∷ number_text n ∷ [])
+
+-- the number of a fault of a hold, and of a task
+abbrev pub hold_fault_number : HoldFault → ℕ
+hold_fault_number (hold.Positions n) = 1
+hold_fault_number (hold.SameName at) = 2
+hold_fault_number (hold.Influence at) = 3
+hold_fault_number (hold.Fits at) = 4
+hold_fault_number (hold.FitMass at) = 5
+hold_fault_number hold.TooMany = 6
+hold_fault_number (hold.Exclude at) = 7
+hold_fault_number (hold.Combined at) = 8
+hold_fault_number (hold.Cumulative at) = 9
+
+abbrev pub task_fault_number : TaskFault → ℕ
+task_fault_number task.TooManyItems = 1
+task_fault_number (task.DuplicateId at) = 2
+task_fault_number (task.ItemTooHeavy at) = 3
+task_fault_number (task.LooseNotBulk at) = 4
+task_fault_number (task.LooseTwice at) = 5
+task_fault_number (task.LooseTooHeavy at) = 6
+task_fault_number (task.Range which) = 7
+
+-- a file of a task has at most so many bytes
+abbrev pub longest_task : ℕ
+longest_task = 1048576
+
+abbrev pub long_text : List ℕ
+long_text = one_line (codes "INPUT" ∷ codes "LONG" ∷ [])
+
+-- the text names a line, of any number, or says that the file ends too early
+abbrev pub NamesLine : List ℕ → Type 0
+NamesLine text =
+    ((n : ℕ) × (text ≡ input_text (codes "LINE") n))
+    ⊎ (((n : ℕ) × (text ≡ input_text (codes "LATER") n)) ⊎ (text ≡ one_line (codes "INPUT" ∷ codes "END" ∷ [])))
+
+-- why the bytes of a file are refused, and the line that says so
+pub data IsRefusal (bytes : List ℕ) : List ℕ → Type 0 where
+  -- they are too many
+  too_long : longest_task < length bytes → IsRefusal bytes long_text
+  -- they spell no task
+  no_task : (text : List ℕ) → length bytes ≤ longest_task → ((t : Problem) → Spells bytes t → ⊥) → NamesLine text → IsRefusal bytes text
+  -- they spell a task whose hold has this first fault
+  wrong_hold : (t : Problem) (fault : HoldFault) → length bytes ≤ longest_task → Spells bytes t → hold_fault t.hold ≡ Some fault
+      → IsRefusal bytes (input_text (codes "HOLD") (hold_fault_number fault))
+  -- they spell a task with a lawful hold and this first fault
+  wrong_task : (t : Problem) (fault : TaskFault) → length bytes ≤ longest_task → Spells bytes t → hold_fault t.hold ≡ None → task_fault t ≡ Some fault
+      → IsRefusal bytes (input_text (codes "TASK") (task_fault_number fault))

@@ -1,0 +1,131 @@
+//! The texts that the program prints, line by line.
+
+ghost use Rattle.std.specs.Prelude.{◌≡◌, ◌++◌, ◌∷◌, [], ◌<◌, ◌≤◌, ◌^◌, pos, length, map, take, codes, OnOk, IfOk, slice_get, Some};
+ghost use Rattle.mass_units.specs.Spelling.{number_text, index_text};
+ghost use Rattle.hold_limits.specs.BranchOrder.{ordered};
+ghost use Rattle.hold_limits.specs.Placement.{IsSound, placed};
+ghost use Rattle.problem_text.specs.TaskText.{line_of, text_of};
+ghost use Rattle.loadctl.specs.AnswerText.{one_line, name_at, place_line, place_lines, plan_text, none_text, budget_text, usage_text, input_text};
+
+use desk_base::NoMemory;
+use hold_limits::{Hold, Path, Task, outcome};
+use mass_units::{Ticks, write_number, write_ticks5};
+use std::alloc::Global;
+
+/// One line of one word.
+pub fn word_line(alloc: Global, word: &[u8]) -> Result<Vec<u8>, NoMemory>
+    ensures { IfOk result (λ text. text.items ≡ one_line (word.now ∷ [])) }
+{
+    let mut text = Vec::new(alloc);
+    text.extend_from_slice(word)?;
+    text.push(b'\n')?;
+    Ok(text)
+}
+
+/// One line of two words.
+pub fn two_word_line(alloc: Global, first: &[u8], second: &[u8]) -> Result<Vec<u8>, NoMemory>
+    ensures { IfOk result (λ text. text.items ≡ one_line (first.now ∷ second.now ∷ [])) }
+{
+    let mut text = Vec::new(alloc);
+    text.extend_from_slice(first)?;
+    text.push(b' ')?;
+    text.extend_from_slice(second)?;
+    text.push(b'\n')?;
+    Ok(text)
+}
+
+/// `BUDGET n`.
+pub fn budget_line(alloc: Global, budget: u32) -> Result<Vec<u8>, NoMemory>
+    ensures { IfOk result (λ text. text.items ≡ budget_text budget) }
+{
+    let mut text = Vec::new(alloc);
+    text.extend_from_slice(b"BUDGET ")?;
+    write_number(alloc, u64::from(budget), &mut text)?;
+    text.push(b'\n')?;
+    Ok(text)
+}
+
+/// `INPUT KIND n`.
+pub fn input_line(alloc: Global, kind: &[u8], number: u64) -> Result<Vec<u8>, NoMemory>
+    ensures { IfOk result (λ text. text.items ≡ input_text kind.now number) }
+{
+    let mut text = Vec::new(alloc);
+    text.extend_from_slice(b"INPUT ")?;
+    text.extend_from_slice(kind)?;
+    text.push(b' ')?;
+    write_number(alloc, number, &mut text)?;
+    text.push(b'\n')?;
+    Ok(text)
+}
+
+/// Appends `WORD INDEX`.
+fn push_index_line(
+    alloc: Global,
+    text: &mut Vec<u8>,
+    word: &[u8],
+    index: Ticks,
+) -> Result<(), NoMemory>
+    ensures { OnOk result (text.new.items ≡ text.old.items ++ one_line (word.now ∷ index_text index.0 ∷ [])) }
+{
+    text.extend_from_slice(word)?;
+    text.push(b' ')?;
+    write_ticks5(alloc, index, text)?;
+    text.push(b'\n')?;
+    Ok(())
+}
+
+/// The name of a position, and nothing where the number is no position's.
+fn name_of(hold: &Hold, number: u8) -> &[u8]
+    ensures { result.now ≡ name_at hold.now number }
+{
+    match hold.positions().get(number as usize) {
+        Some(position) => position.name.bytes(),
+        None => b"",
+    }
+}
+
+/// Appends `place ID NAME`.
+fn push_place_line(text: &mut Vec<u8>, id: &[u8], name: &[u8]) -> Result<(), NoMemory>
+    ensures { OnOk result (text.new.items ≡ text.old.items ++ one_line (codes "place" ∷ id.now ∷ name.now ∷ [])) }
+{
+    text.extend_from_slice(b"place ")?;
+    text.extend_from_slice(id)?;
+    text.push(b' ')?;
+    text.extend_from_slice(name)?;
+    text.push(b'\n')?;
+    Ok(())
+}
+
+/// Appends a line for each container of the path, in branch order.
+fn push_place_lines(text: &mut Vec<u8>, task: &Task, path: &[u8]) -> Result<(), NoMemory>
+    requires { length path.now ≤ length task.now.items }
+    ensures { OnOk result (text.new.items ≡ text.old.items ++ text_of (place_lines task.now (placed task.now path.now))) }
+{
+    for rank in 0..path.len() {
+        let item = task.at_rank(rank);
+        push_place_line(text, item.id.bytes(), name_of(task.hold(), path[rank]))?;
+    }
+    Ok(())
+}
+
+/// A distance as a number of ticks.
+fn ticks_of(distance: u64) -> Ticks
+    requires { distance < 2 ^ 63 }
+    ensures { result.0 ≡ pos distance }
+{
+    Ticks(distance as i64)
+}
+
+/// The plan of a sound path: a line for each container in branch order, the take-off index, and its
+/// distance from the ideal.
+pub fn plan_of(alloc: Global, task: &Task, path: &Path) -> Result<Vec<u8>, NoMemory>
+    requires { IsSound task.now path.now.items }
+    ensures { IfOk result (λ text. text.items ≡ plan_text task.now path.now.items) }
+{
+    let (take_off, distance) = outcome(task, path);
+    let mut text = word_line(alloc, b"PLAN")?;
+    push_place_lines(&mut text, task, path.as_slice())?;
+    push_index_line(alloc, &mut text, b"index", take_off)?;
+    push_index_line(alloc, &mut text, b"distance", ticks_of(distance))?;
+    Ok(text)
+}
