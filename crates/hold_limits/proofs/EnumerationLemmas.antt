@@ -26,10 +26,10 @@ use Rattle.hold_limits.proofs.SoundLemmas.{IsSound-within}
 
 -- Tests on lists --------------------------------------------------------------------------------
 
-nat_le-Decides : (a b : ℕ) → Decides (nat_le a b) (a ≤ b)
+pub nat_le-Decides : (a b : ℕ) → Decides (nat_le a b) (a ≤ b)
 nat_le-Decides a b = (leb-true a b, le-leb a b)
 
-int_le-Decides : (a b : ℤ) → Decides (int_le a b) (a ≤ℤ b)
+pub int_le-Decides : (a b : ℤ) → Decides (int_le a b) (a ≤ℤ b)
 int_le-Decides a b = (int_le-tells a b, int_le-from a b)
   where
     int_le-tells : (a b : ℤ) → int_le a b ≡ true → a ≤ℤ b
@@ -38,16 +38,16 @@ int_le-Decides a b = (int_le-tells a b, int_le-from a b)
     int_le-from : (a b : ℤ) → a ≤ℤ b → int_le a b ≡ true
     int_le-from a b is = grind (arith, ints)
 
-Any-weaker : {X : Type 0} (P Q : X → Type 0) (weaker : (x : X) → P x → Q x) (xs : List X) → Any P xs → Any Q xs
+pub Any-weaker : {X : Type 0} (P Q : X → Type 0) (weaker : (x : X) → P x → Q x) (xs : List X) → Any P xs → Any Q xs
 Any-weaker P Q weaker xs any = (any.0, any.1, any.2, any.3, weaker any.1 any.4)
 
-Any-Decides : {X : Type 0} (p : X → Bool) (P : X → Type 0) (each : (x : X) → Decides (p x) (P x)) (xs : List X) → Decides (list_any p xs) (Any P xs)
+pub Any-Decides : {X : Type 0} (p : X → Bool) (P : X → Type 0) (each : (x : X) → Decides (p x) (P x)) (xs : List X) → Decides (list_any p xs) (Any P xs)
 Any-Decides p P each xs = (
   λ is. Any-weaker (λ x. p x ≡ true) P (λ x. (each x).0) xs (Any-from_list_any p xs is),
   λ any. list_any-from_Any p xs (Any-weaker P (λ x. p x ≡ true) (λ x. (each x).1) xs any),
 )
 
-All-Decides : {X : Type 0} (p : X → Bool) (P : X → Type 0) (each : (x : X) → Decides (p x) (P x)) (xs : List X) → Decides (list_all p xs) (All P xs)
+pub All-Decides : {X : Type 0} (p : X → Bool) (P : X → Type 0) (each : (x : X) → Decides (p x) (P x)) (xs : List X) → Decides (list_all p xs) (All P xs)
 All-Decides p P each xs = Decides-by_and p P (list_all p) each refl (λ _ _. refl) xs
 
 AllPairs-Decides : {X : Type 0} (test : X → X → Bool) (R : X → X → Type 0) (each : (x y : X) → Decides (test x y) (R x y)) (xs : List X) → Decides (list_all_pairs test xs) (AllPairs R xs)
@@ -70,10 +70,10 @@ accepts-Decides item place = Any-Decides
     (λ fit. Decides-and _ _ (bytes_eq-Decides fit.kind (kind_of item)) (nat_le-Decides item.mass.0 fit.most.0))
     place.fits
 
-is_accepted-Decides : (hold : Layout) (p : Placed) → Decides (is_accepted hold p) (IsAccepted hold p)
+pub is_accepted-Decides : (hold : Layout) (p : Placed) → Decides (is_accepted hold p) (IsAccepted hold p)
 is_accepted-Decides hold p = IsSomeAnd-Decides (accepts p.0) (Accepts p.0) (accepts-Decides p.0) (slice_get hold.positions p.1)
 
-exclude-Decides : (hold : Layout) (a b : ℕ) → Decides (exclude hold a b) (Exclude hold a b)
+pub exclude-Decides : (hold : Layout) (a b : ℕ) → Decides (exclude hold a b) (Exclude hold a b)
 exclude-Decides hold a b = Any-Decides
     (λ (pair : ℕ × ℕ). ((pair.0 == a) && (pair.1 == b)) || ((pair.0 == b) && (pair.1 == a)))
     (λ (pair : ℕ × ℕ). ((pair.0 ≡ a) × (pair.1 ≡ b)) ⊎ ((pair.0 ≡ b) × (pair.1 ≡ a)))

@@ -1,17 +1,18 @@
--- the bounds that a lawful task keeps
-use Rattle.std.proofs.Common.{◌≡◌, ⊎_elim, ℕ, zero, suc, ◌<◌, ◌≤◌, ℤ, ◌≤ℤ◌, true, false, ◌==◌, ◌||◌, nat_lt, List, [], ◌∷◌, ◌++◌, length, take, get_or, map, Option, None, option_map, refl, ap, sym, ◌∙◌, subst, arith, eqb, unsigned_abs, int_lt}
+-- what a lawful hold and a lawful task keep
+use Rattle.std.proofs.Common.{◌≡◌, ◌≢◌, ⊎_elim, ℕ, Bool, not, if◌then◌else◌, Some, zero, suc, ◌<◌, ◌≤◌, ℤ, ◌≤ℤ◌, true, false, ◌==◌, ◌||◌, nat_lt, List, [], ◌∷◌, ◌++◌, length, take, get_or, map, Option, None, option_map, refl, ap, sym, ◌∙◌, subst, arith, eqb, unsigned_abs, int_lt}
 use Rattle.std.proofs.Math.Seq.{take-suc}
 use Rattle.std.proofs.lemmas.Bool.{false≢true, ltb-false, eqb-true, or_cases, not-false}
 use Rattle.std.proofs.lemmas.Bool.Decides.{nat_tests}
 use Rattle.std.proofs.lemmas.Cmp.{nat_eq_equiv}
 use Rattle.std.proofs.lemmas.Int.{ints}
-use Rattle.std.proofs.lemmas.List.{take_all, map-append, length-map}
-use Rattle.std.proofs.lemmas.List.Elements.{All-weaker, All-head, All-tail, All-map}
+use Rattle.std.proofs.lemmas.List.{take_all, get_or-take, length-take, map-append, length-map}
+use Rattle.std.proofs.lemmas.List.Elements.{All-weaker, All-head, All-tail, All-map, All-from_recursion}
 use Rattle.std.proofs.lemmas.Map.Keys.{IsDistinct-push}
 use Rattle.std.proofs.lemmas.Map.Steps.{length-le_from_distinct_below}
-use Rattle.std.proofs.lemmas.Option.{slice_get_cases}
-use Rattle.std.specs.Prelude.{All, position}
-use Rattle.std.specs.List.{list_any, IsDistinct}
+use Rattle.std.proofs.lemmas.Slice.Eq.{bytes_eq-Decides}
+use Rattle.std.proofs.lemmas.Option.{slice_get_cases, slice_get-get_or}
+use Rattle.std.specs.Prelude.{All, AllPairs, position, slice_get, is_some}
+use Rattle.std.specs.List.{list_any, AllByRecursion, IsDistinct}
 use Rattle.std.specs.Option.{option_or}
 use Rattle.desk_base.specs.Lists.{first_repeat}
 use Rattle.hold_limits.specs.declared.fault.HoldFault.{HoldFault}
@@ -22,30 +23,13 @@ use Rattle.hold_limits.specs.declared.parts.Position.{Position}
 use Rattle.hold_limits.specs.declared.parts.Item.{Item}
 use Rattle.hold_limits.specs.declared.parts.Loose.{Loose}
 use Rattle.hold_limits.specs.Problem.{Problem}
-use Rattle.hold_limits.specs.Faults.{IsLawful, position_fault, limit_fault, item_fault, loose_fault, range_fault, fault_if, has_wrong_number, same_name, has_wrong_influence, has_wrong_fits, has_wrong_fit_mass, same_id, is_too_heavy, is_bulk, is_loose_misplaced, same_place, is_loose_too_heavy, is_over_index}
-use Rattle.hold_limits.proofs.FaultLemmas.{option_or-none, fault_if-none, option_map-none, position-none, first_repeat-none}
-
--- what the tests of a hold and of a task let pass, as inequalities
-pub record LawfulBounds (t : Problem) : Type 0 where
-  -- the hold has 1 to 64 positions, of at most 100,000 ticks for a kilogram
-  pub some_position : 0 < length t.hold.positions
-  pub positions : length t.hold.positions ≤ 64
-  pub influences : All (λ (place : Position). unsigned_abs place.influence ≤ 100000) t.hold.positions
-  -- the offer has at most 48 containers, of at most 20,000 kg
-  pub items : length t.items ≤ 48
-  pub item_masses : All (λ (item : Item). item.mass.0 ≤ 20000) t.items
-  -- the loose loads are at most 64, of at most 20,000 kg, on bulk positions of the hold
-  pub loose : length t.loose ≤ 64
-  pub loose_masses : All (λ (load : Loose). load.mass.0 ≤ 20000) t.loose
-  pub loose_known : All (λ (load : Loose). load.position < length t.hold.positions) t.loose
-  pub loose_bulk : All (λ (load : Loose). is_bulk t.hold.positions load.position ≡ true) t.loose
-  -- the indices are within 10,000 index units, and the ends of the ideal band are in order
-  pub base : unsigned_abs t.base ≤ 1000000000
-  pub low : unsigned_abs t.low ≤ 1000000000
-  pub high : unsigned_abs t.high ≤ 1000000000
-  pub ideal_low : unsigned_abs t.ideal_low ≤ 1000000000
-  pub ideal_high : unsigned_abs t.ideal_high ≤ 1000000000
-  pub band : t.ideal_low ≤ℤ t.ideal_high
+use Rattle.hold_limits.specs.declared.lists.Fit.{Fit}
+use Rattle.hold_limits.specs.declared.parts.Combined.{Combined}
+use Rattle.hold_limits.specs.declared.parts.Cumulative.{Cumulative}
+use Rattle.hold_limits.specs.Layout.{Layout}
+use Rattle.hold_limits.specs.Bounds.{HasItsKinds, HoldBounds, LawfulBounds}
+use Rattle.hold_limits.specs.Faults.{IsLawful, IsLawfulHold, position_fault, limit_fault, item_fault, loose_fault, range_fault, fault_if, has_wrong_number, same_name, has_wrong_influence, has_wrong_fits, has_wrong_fit_mass, has_wrong_mass, same_kind, has_too_many, is_unknown, has_wrong_places, same_pair, is_wrong_exclude_at, wrong_exclude, is_rising, is_wrong_combined, is_wrong_cumulative, same_id, is_too_heavy, is_bulk, is_loose_misplaced, same_place, is_loose_too_heavy, is_over_index}
+use Rattle.hold_limits.proofs.FaultLemmas.{option_or-none, fault_if-none, option_map-none, position-none, first_below-none_each, first_repeat-none}
 
 -- Loose loads -----------------------------------------------------------------------------------
 
@@ -98,11 +82,20 @@ bulk-known positions q bulk = ⊎_elim
 
 -- The tests of each list --------------------------------------------------------------------------
 
-abbrev PositionBounds : List Position → Type 0
-PositionBounds positions = (has_wrong_number positions ≡ false) × All (λ place. has_wrong_influence place ≡ false) positions
+-- each position has another name than all before it
+abbrev HaveNames : List Position → Type 0
+HaveNames positions = (k : ℕ) (d : Position) → k < length positions → list_any (same_name (get_or positions k d)) (take k positions) ≡ false
 
-position-bounds : (positions : List Position) → position_fault positions ≡ None → PositionBounds positions
-position-bounds positions none =
+abbrev PositionFacts : List Position → Type 0
+PositionFacts positions =
+    (has_wrong_number positions ≡ false)
+    × HaveNames positions
+    × All (λ place. has_wrong_influence place ≡ false) positions
+    × All (λ place. has_wrong_fits place ≡ false) positions
+    × All (λ place. has_wrong_fit_mass place ≡ false) positions
+
+position-facts : (positions : List Position) → position_fault positions ≡ None → PositionFacts positions
+position-facts positions none =
     let at_number : Option HoldFault = fault_if (has_wrong_number positions) (hold.Positions (length positions)) in
     let at_name : Option HoldFault = option_map hold.SameName (first_repeat same_name positions) in
     let at_influence : Option HoldFault = option_map hold.Influence (position has_wrong_influence positions) in
@@ -111,9 +104,34 @@ position-bounds positions none =
     let from_name : Option HoldFault = option_or at_name (option_or at_influence (option_or at_fits at_mass)) in
     let number = option_or-none at_number from_name none in
     let name = option_or-none at_name (option_or at_influence (option_or at_fits at_mass)) number.1 in
-    let influence = option_or-none at_influence (option_or at_fits at_mass) name.1 in (
+    let influence = option_or-none at_influence (option_or at_fits at_mass) name.1 in
+    let fits = option_or-none at_fits at_mass influence.1 in (
       fault_if-none (has_wrong_number positions) (hold.Positions (length positions)) number.0,
+      first_repeat-none same_name positions (option_map-none hold.SameName (first_repeat same_name positions) name.0),
       position-none has_wrong_influence positions (option_map-none hold.Influence (position has_wrong_influence positions) influence.0),
+      position-none has_wrong_fits positions (option_map-none hold.Fits (position has_wrong_fits positions) fits.0),
+      position-none has_wrong_fit_mass positions (option_map-none hold.FitMass (position has_wrong_fit_mass positions) fits.1),
+    )
+
+-- each excluding pair, combined limit and cumulative limit passes its test
+abbrev LimitFacts : Layout → Type 0
+LimitFacts h =
+    ((k : ℕ) → k < length h.excludes → is_wrong_exclude_at h.positions h.excludes k ≡ false)
+    × All (λ limit. is_wrong_combined h.positions limit ≡ false) h.combined
+    × All (λ limit. is_wrong_cumulative h.positions limit ≡ false) h.cumulative
+
+limit-facts : (h : Layout) → limit_fault h ≡ None → LimitFacts h
+limit-facts h none =
+    let at_number : Option HoldFault = fault_if (has_too_many h.excludes h.combined h.cumulative) hold.TooMany in
+    let at_exclude : Option HoldFault = option_map hold.Exclude (wrong_exclude h.positions h.excludes) in
+    let at_combined : Option HoldFault = option_map hold.Combined (position (is_wrong_combined h.positions) h.combined) in
+    let at_cumulative : Option HoldFault = option_map hold.Cumulative (position (is_wrong_cumulative h.positions) h.cumulative) in
+    let number = option_or-none at_number (option_or at_exclude (option_or at_combined at_cumulative)) none in
+    let exclude = option_or-none at_exclude (option_or at_combined at_cumulative) number.1 in
+    let combined = option_or-none at_combined at_cumulative exclude.1 in (
+      first_below-none_each (is_wrong_exclude_at h.positions h.excludes) (length h.excludes) (option_map-none hold.Exclude (wrong_exclude h.positions h.excludes) exclude.0),
+      position-none (is_wrong_combined h.positions) h.combined (option_map-none hold.Combined (position (is_wrong_combined h.positions) h.combined) combined.0),
+      position-none (is_wrong_cumulative h.positions) h.cumulative (option_map-none hold.Cumulative (position (is_wrong_cumulative h.positions) h.cumulative) combined.1),
     )
 
 abbrev ItemBounds : List Item → Type 0
@@ -178,11 +196,101 @@ number-bounds n right = grind (arith, nat_tests)
 band-order : (low high : ℤ) → int_lt high low ≡ false → low ≤ℤ high
 band-order low high right = grind (arith, ints)
 
+or-parts : (a b : Bool) → (a || b) ≡ false → (a ≡ false) × (b ≡ false)
+or-parts false b none = (refl, none)
+or-parts true b none = absurd (cc)
+
+list_any-false : {X : Type 0} (p : X → Bool) (xs : List X) → list_any p xs ≡ false → All (λ x. p x ≡ false) xs
+list_any-false {X} p xs none = All-from_recursion (λ x. p x ≡ false) xs (each xs none)
+  where
+    each : (xs : List X) → list_any p xs ≡ false → AllByRecursion (λ x. p x ≡ false) xs
+    each [] none = tt
+    each (x ∷ xs) none =
+        let parts = or-parts (p x) (list_any p xs) none in
+        (parts.0, each xs parts.1)
+
+names-differ : (positions : List Position) → HaveNames positions → AllPairs (λ (a b : Position). a.name ≢ b.name) positions
+names-differ positions names i j d before within same =
+    let b : Position = get_or positions j d in
+    let at : get_or (take j positions) i d ≡ get_or positions i d = get_or-take j positions i d before in
+    let inside : i < length (take j positions) = omega (arith, length-take j positions) in
+    let differs : same_name b (get_or (take j positions) i d) ≡ false = list_any-false (same_name b) (take j positions) (names j d within) i d inside in
+    absurd (false≢true (sym differs ∙ ap (same_name b) at ∙ (bytes_eq-Decides b.name (get_or positions i d).name).1 (sym same)))
+
+no_kinds : (fits : List Fit) → not (length fits == 0) ≡ false → fits ≡ []
+no_kinds [] right = refl
+no_kinds (fit ∷ fits) right = absurd (omega (arith, is_zero (length (fit ∷ fits)) right))
+  where
+    is_zero : (n : ℕ) → not (n == 0) ≡ false → n ≡ 0
+    is_zero n right = grind (arith, nat_tests)
+
+kinds-right : (bulk : Bool) (fits : List Fit)
+    → (if bulk then not (length fits == 0) else (length fits == 0) || (nat_lt 16 (length fits) || is_some (first_repeat same_kind fits))) ≡ false
+    → HasItsKinds bulk fits
+kinds-right true fits right = no_kinds fits right
+kinds-right false fits right = some_and_few (length fits) (is_some (first_repeat same_kind fits)) right
+  where
+    some_and_few : (n : ℕ) (again : Bool) → ((n == 0) || (nat_lt 16 n || again)) ≡ false → (1 ≤ n) × (n ≤ 16)
+    some_and_few n again right = grind (arith, nat_tests)
+
+mass-right : (fit : Fit) → has_wrong_mass fit ≡ false → (1 ≤ fit.most.0) × (fit.most.0 ≤ 20000)
+mass-right fit right = grind (arith, nat_tests)
+
+unknown-not : (positions : List Position) (q : ℕ) → is_unknown positions q ≡ false → q < length positions
+unknown-not positions q right = grind (arith, nat_tests)
+
+pair-right : (h : Layout) (k : ℕ) (d : ℕ × ℕ) → k < length h.excludes → is_wrong_exclude_at h.positions h.excludes k ≡ false
+    → ((get_or h.excludes k d).0 < length h.positions) × ((get_or h.excludes k d).1 < length h.positions)
+pair-right h k d within right =
+    let pair : ℕ × ℕ = get_or h.excludes k d in
+    let there : slice_get h.excludes k ≡ Some pair = slice_get-get_or h.excludes k d within in
+    let wrong : (has_wrong_places h.positions pair || list_any (same_pair pair) (take k h.excludes)) ≡ false = rw there at right in
+    known pair wrong
+  where
+    known : (pair : ℕ × ℕ) → (has_wrong_places h.positions pair || list_any (same_pair pair) (take k h.excludes)) ≡ false
+        → (pair.0 < length h.positions) × (pair.1 < length h.positions)
+    known pair wrong =
+        let places = or-parts (has_wrong_places h.positions pair) (list_any (same_pair pair) (take k h.excludes)) wrong in
+        let first = or-parts (pair.0 == pair.1) _ places.0 in
+        let second = or-parts (is_unknown h.positions pair.0) _ first.1 in
+        let third = or-parts (is_unknown h.positions pair.1) _ second.1 in
+        (unknown-not h.positions pair.0 second.0, unknown-not h.positions pair.1 third.0)
+
+combined-right : (positions : List Position) (limit : Combined) → is_wrong_combined positions limit ≡ false
+    → (1 ≤ length limit.places) × All (λ q. q < length positions) limit.places
+combined-right positions limit right =
+    let number = or-parts (length limit.places == 0) (not (is_rising limit.places) || list_any (is_unknown positions) limit.places) right in
+    let known = or-parts (not (is_rising limit.places)) (list_any (is_unknown positions) limit.places) number.1 in (
+      some (length limit.places) number.0,
+      All-weaker (λ q. is_unknown positions q ≡ false) (λ q. q < length positions) (unknown-not positions) limit.places (list_any-false (is_unknown positions) limit.places known.1),
+    )
+  where
+    some : (n : ℕ) → (n == 0) ≡ false → 1 ≤ n
+    some n right = grind (arith, nat_tests)
+
+pub hold-bounds : (h : Layout) → IsLawfulHold h → HoldBounds h
+hold-bounds h lawful =
+    let of_hold = option_or-none (position_fault h.positions) (limit_fault h) lawful.right in
+    let of_positions = position-facts h.positions of_hold.0 in
+    let of_limits = limit-facts h of_hold.1 in
+    let number = number-bounds (length h.positions) of_positions.0 in
+    record {
+      some_position = number.0;
+      positions = number.1;
+      names = names-differ h.positions of_positions.1;
+      influences = All-weaker (λ place. has_wrong_influence place ≡ false) (λ place. unsigned_abs place.influence ≤ 100000) (λ place right. ltb-false _ _ right) h.positions of_positions.2;
+      kinds = All-weaker (λ place. has_wrong_fits place ≡ false) (λ (place : Position). HasItsKinds place.bulk place.fits) (λ place right. kinds-right place.bulk place.fits right) h.positions of_positions.3;
+      masses = All-weaker (λ place. has_wrong_fit_mass place ≡ false) (λ (place : Position). All (λ (fit : Fit). (1 ≤ fit.most.0) × (fit.most.0 ≤ 20000)) place.fits)
+          (λ place right. All-weaker (λ fit. has_wrong_mass fit ≡ false) (λ (fit : Fit). (1 ≤ fit.most.0) × (fit.most.0 ≤ 20000)) mass-right place.fits (list_any-false has_wrong_mass place.fits right))
+          h.positions of_positions.4;
+      excludes = λ k d within. pair-right h k d within (of_limits.0 k within);
+      combined = All-weaker (λ limit. is_wrong_combined h.positions limit ≡ false) (λ (limit : Combined). (1 ≤ length limit.places) × All (λ q. q < length h.positions) limit.places) (combined-right h.positions) h.combined of_limits.1;
+      cumulative = All-weaker (λ limit. is_wrong_cumulative h.positions limit ≡ false) (λ (limit : Cumulative). limit.place < length h.positions) (λ limit right. unknown-not h.positions limit.place right) h.cumulative of_limits.2;
+    }
+
 pub lawful-bounds : (t : Problem) → IsLawful t → LawfulBounds t
 lawful-bounds t lawful =
-    let of_hold = option_or-none (position_fault t.hold.positions) (limit_fault t.hold) lawful.hold.right in
-    let of_positions = position-bounds t.hold.positions of_hold.0 in
-    let number = number-bounds (length t.hold.positions) of_positions.0 in
+    let of_hold = hold-bounds t.hold lawful.hold in
     let at_range : Option TaskFault = option_map task.Range (range_fault t.base t.low t.high t.ideal_low t.ideal_high) in
     let of_items = option_or-none (item_fault t.items) (option_or (loose_fault t.hold.positions t.loose) at_range) lawful.right in
     let of_loose = option_or-none (loose_fault t.hold.positions t.loose) at_range of_items.1 in
@@ -194,12 +302,12 @@ lawful-bounds t lawful =
     let known : All (λ (load : Loose). load.position < length t.hold.positions) t.loose =
     All-weaker (λ load. is_bulk t.hold.positions load.position ≡ true) (λ load. load.position < length t.hold.positions) (λ load is. bulk-known t.hold.positions load.position is) t.loose bulk in
     record {
-      some_position = number.0;
-      positions = number.1;
-      influences = All-weaker (λ place. has_wrong_influence place ≡ false) (λ place. unsigned_abs place.influence ≤ 100000) (λ place right. ltb-false _ _ right) t.hold.positions of_positions.1;
+      some_position = of_hold.some_position;
+      positions = of_hold.positions;
+      influences = of_hold.influences;
       items = ltb-false _ _ items.0;
       item_masses = All-weaker (λ item. is_too_heavy item ≡ false) (λ item. item.mass.0 ≤ 20000) (λ item right. ltb-false _ _ right) t.items items.1;
-      loose = omega (arith, number.1, loose-few t.loose (length t.hold.positions) loose.1 known);
+      loose = omega (arith, of_hold.positions, loose-few t.loose (length t.hold.positions) loose.1 known);
       loose_masses = All-weaker (λ load. is_loose_too_heavy load ≡ false) (λ load. load.mass.0 ≤ 20000) (λ load right. ltb-false _ _ right) t.loose loose.2;
       loose_known = known;
       loose_bulk = bulk;

@@ -17,7 +17,8 @@ use Rattle.hold_limits.specs.BranchOrder.{Offered, branch_order, ordered}
 use Rattle.hold_limits.specs.Placement.{Placed, placed, influence_at, placed_moment, loose_moment}
 use Rattle.hold_limits.proofs.BranchOrderLemmas.{entries-offered}
 use Rattle.hold_limits.proofs.PlacedLemmas.{take-placed_more, length-placed}
-use Rattle.hold_limits.proofs.LawfulBounds.{LawfulBounds, lawful-bounds}
+use Rattle.hold_limits.specs.Bounds.{LawfulBounds}
+use Rattle.hold_limits.proofs.LawfulBounds.{lawful-bounds}
 
 -- Signed sums -----------------------------------------------------------------------------------
 

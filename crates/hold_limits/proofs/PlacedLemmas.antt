@@ -1,7 +1,7 @@
 -- the containers of a prefix with their positions, one after another
 use Rattle.std.proofs.Common.{◌≡◌, ℕ, ◌+◌, ◌<◌, ◌≤◌, List, [], ◌∷◌, ◌++◌, length, get_or, take, Some, refl, ap, ap₂, ◌∙◌, arith}
 use Rattle.std.proofs.lemmas.Slice.Zip.{get_or-zip, length-zip}
-use Rattle.std.proofs.lemmas.Option.{get_or_from_slice_get}
+use Rattle.std.proofs.lemmas.Option.{get_or_from_slice_get, slice_get-get_or, slice_get_within}
 use Rattle.std.proofs.lemmas.List.{take_more, get_or_default}
 use Rattle.std.proofs.lemmas.List.Sums.{sum_by_push, sum_by-take-le}
 use Rattle.std.specs.Prelude.{slice_get, IsSomeAnd, ◌↔◌, Bool, if◌then◌else◌}
@@ -22,6 +22,17 @@ get_or-placed t prefix rank q item d short within there number =
     let inside : rank < length (ordered t.items) = omega (arith, length-ordered t.items) in
     get_or-zip (ordered t.items) prefix rank d inside within
     ∙ ap₂ (λ a b. (a, b)) (get_or_from_slice_get (ordered t.items) rank item d.0 there) (get_or_default prefix rank d.1 0 within ∙ number)
+
+pub placed-at : (t : Problem) (prefix : List ℕ) (rank q : ℕ) (item : Item) → slice_get (ordered t.items) rank ≡ Some item → slice_get prefix rank ≡ Some q
+    → slice_get (placed t prefix) rank ≡ Some (item, q)
+placed-at t prefix rank q item there number =
+    let in_order : rank < length (ordered t.items) = slice_get_within (ordered t.items) rank item there in
+    let in_prefix : rank < length prefix = slice_get_within prefix rank q number in
+    let inside : rank < length (placed t prefix) = omega (arith, length-zip (ordered t.items) prefix) in
+    let pair : get_or (placed t prefix) rank (item, q) ≡ (item, q) =
+    get_or-zip (ordered t.items) prefix rank (item, q) in_order in_prefix
+    ∙ ap₂ (λ a b. (a, b)) (get_or_from_slice_get (ordered t.items) rank item item there) (get_or_from_slice_get prefix rank q q number) in
+    slice_get-get_or (placed t prefix) rank (item, q) inside ∙ ap (λ p. Some p) pair
 
 pub take-placed_more : (t : Problem) (prefix : List ℕ) (rank q : ℕ) (item : Item) → length prefix ≤ length t.items → rank < length prefix
     → slice_get (ordered t.items) rank ≡ Some item → get_or prefix rank 0 ≡ q → take (rank + 1) (placed t prefix) ≡ take rank (placed t prefix) ++ (item, q) ∷ []

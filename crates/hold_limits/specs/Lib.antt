@@ -4,5 +4,6 @@ pub mod Problem
 pub mod BranchOrder
 pub mod Placement
 pub mod Faults
+pub mod Bounds
 pub mod Group
 pub mod Enumeration

@@ -1,5 +1,6 @@
 -- a loading task as contracts see it
 use Rattle.std.specs.Prelude.{ℤ, List}
+use Rattle.mass_units.specs.declared.Ticks.{Ticks}
 use Rattle.hold_limits.specs.Layout.{Layout}
 use Rattle.hold_limits.specs.declared.parts.Indices.{Indices}
 use Rattle.hold_limits.specs.declared.parts.Item.{Item}
@@ -16,6 +17,12 @@ pub record Problem : Type 0 where
   pub ideal_low : ℤ
   pub ideal_high : ℤ
 
+-- the indices that these ticks are
+abbrev pub indices_of : Ticks → Ticks → Ticks → Ticks → Ticks → Indices
+indices_of base low high ideal_low ideal_high =
+    record { base = base; low = low; high = high; ideal_low = ideal_low; ideal_high = ideal_high }
+
+-- the task with these parts
 abbrev pub problem_of : Layout → List Item → List Loose → Indices → Problem
 problem_of hold items loose at = record {
   hold = hold;

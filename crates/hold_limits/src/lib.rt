@@ -4,13 +4,16 @@
 #![tactic(auto)]
 
 mod balance;
+mod bounds;
 mod branch_order;
+mod copies;
 mod fault;
 mod hold;
 mod hold_faults;
 mod laws;
 mod lists;
 mod parts;
+mod sameness;
 mod sound;
 mod spellings;
 mod task;
@@ -19,6 +22,7 @@ mod texts;
 
 pub use arrayvec::ArrayVec;
 pub use balance::{distance_from_ideal, hold_index_of, is_in_window, outcome};
+pub use bounds::lawful_bounds;
 pub use fault::{HoldFault, TaskFault};
 pub use hold::Hold;
 pub use laws::placement_laws;

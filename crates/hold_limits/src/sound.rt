@@ -48,7 +48,8 @@ fn are_accepted(task: &Task, prefix: &[u8]) -> bool
 }
 
 fn is_pair_of(pair: (u8, u8), one: u8, other: u8) -> bool
-    ensures { IsTrue result ↔ (((pair.0 ≡ one) × (pair.1 ≡ other)) ⊎ ((pair.0 ≡ other) × (pair.1 ≡ one))) }
+    ensures { IsTrue result ↔ (((pair.0 ≡ one) × (pair.1 ≡ other)) ⊎ ((pair.0 ≡ other)
+        × (pair.1 ≡ one))) }
 {
     (pair.0 == one && pair.1 == other) || (pair.0 == other && pair.1 == one)
 }
@@ -184,7 +185,8 @@ fn is_combined_met(task: &Task, prefix: &[u8], limit: &Combined) -> bool
 
 fn are_combined_met(task: &Task, prefix: &[u8], limits: &[Combined]) -> bool
     requires { length prefix.now ≤ length task.now.items }
-    ensures { IsTrue result ↔ All (λ c. load_of (is_listed c.places) task.now prefix.now ≤ c.most.0) limits.now }
+    ensures { IsTrue result ↔ All
+        (λ c. load_of (is_listed c.places) task.now prefix.now ≤ c.most.0) limits.now }
 {
     for limit in limits {
         if !is_combined_met(task, prefix, limit) {
@@ -203,7 +205,8 @@ fn is_cumulative_met(task: &Task, prefix: &[u8], limit: &Cumulative) -> bool
 
 fn are_cumulative_met(task: &Task, prefix: &[u8], limits: &[Cumulative]) -> bool
     requires { length prefix.now ≤ length task.now.items }
-    ensures { IsTrue result ↔ All (λ c. load_of (is_counted c) task.now prefix.now ≤ c.most.0) limits.now }
+    ensures { IsTrue result ↔ All
+        (λ c. load_of (is_counted c) task.now prefix.now ≤ c.most.0) limits.now }
 {
     for limit in limits {
         if !is_cumulative_met(task, prefix, limit) {

@@ -1,15 +1,19 @@
-ghost use Rattle.std.specs.Prelude.{◌≡◌, ◌<◌, IfOk, IfErr, Some, None, length, slice_get};
+ghost use Rattle.std.specs.Prelude.{◌≡◌, ◌↔◌, ◌<◌, IfOk, IfErr, Some, None, length, slice_get, IsTrue};
 ghost use Rattle.hold_limits.specs.BranchOrder.{order_of, ordered};
-ghost use Rattle.hold_limits.specs.Problem.{problem_of};
+ghost use Rattle.hold_limits.specs.Problem.{indices_of, problem_of};
 ghost use Rattle.hold_limits.specs.Faults.{IsLawful, task_fault};
 
 use crate::branch_order::{branch_order, item_at};
+use crate::copies::{copied_items, copied_values};
 use crate::fault::TaskFault;
 use crate::hold::Hold;
 use crate::parts::{Indices, Item, Loose};
+use crate::sameness::{Same, are_same};
 use crate::task_faults::fault_of_task;
 use arrayvec::ArrayVec;
+use desk_base::NoMemory;
 use mass_units::Ticks;
+use std::alloc::Global;
 use std::marker::Model;
 
 /// Position numbers for the first containers of branch order, one for each.
@@ -52,9 +56,11 @@ impl Task {
         ideal_low: Ticks,
         ideal_high: Ticks,
     ) -> Result<Task, TaskFault>
-        ensures made { IfOk result (λ task. task ≡ problem_of hold items.items loose.items record { base = base; low = low; high = high; ideal_low = ideal_low; ideal_high = ideal_high }) }
+        ensures made { IfOk result (λ task. task ≡ problem_of hold items.items loose.items
+            (indices_of base low high ideal_low ideal_high)) }
         ensures lawful { IfOk result (λ task. IsLawful task) }
-        ensures refused { IfErr result (λ fault. task_fault (problem_of hold items.items loose.items record { base = base; low = low; high = high; ideal_low = ideal_low; ideal_high = ideal_high }) ≡ Some fault) }
+        ensures refused { IfErr result (λ fault. task_fault (problem_of hold items.items loose.items
+            (indices_of base low high ideal_low ideal_high)) ≡ Some fault) }
     {
         let indices = Indices {
             base,
@@ -74,6 +80,31 @@ impl Task {
             indices,
             order,
         })
+    }
+
+    /// A task with the same parts.
+    pub fn copy(&self, alloc: Global) -> Result<Task, NoMemory>
+        ensures { IfOk result (λ copy. copy ≡ self.now) }
+    {
+        let items = copied_items(alloc, self.items.as_slice())?;
+        let order = branch_order(&items);
+        Ok(Task {
+            hold: self.hold.copy(alloc)?,
+            items,
+            loose: copied_values(alloc, self.loose.as_slice())?,
+            indices: self.indices,
+            order,
+        })
+    }
+
+    /// Whether all parts of the tasks are the same.
+    pub fn same(&self, other: &Task) -> bool
+        ensures { IsTrue result ↔ (self.now ≡ other.now) }
+    {
+        self.hold.same(&other.hold)
+            && are_same(self.items.as_slice(), other.items.as_slice())
+            && are_same(self.loose.as_slice(), other.loose.as_slice())
+            && self.indices.is_same(&other.indices)
     }
 
     /// The hold.

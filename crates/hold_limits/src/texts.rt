@@ -37,9 +37,20 @@ impl Name {
         Some(Name { letters })
     }
 
+    /// The same name.
+    pub fn copy(&self) -> Name
+        ensures { result ≡ self.now }
+    {
+        match ArrayVec::try_from(self.letters.as_slice()) {
+            Ok(letters) => Name { letters },
+            Err(_) => unreachable!(),
+        }
+    }
+
     /// The letters of the name.
     pub fn bytes(&self) -> &[u8]
-        ensures { result.now ≡ self.now }
+        ensures value { result.now ≡ self.now }
+        ensures spelled { IsName self.now }
     {
         self.letters.as_slice()
     }
@@ -75,6 +86,16 @@ impl UldId {
         Some(UldId { letters })
     }
 
+    /// The same identity.
+    pub fn copy(&self) -> UldId
+        ensures { result ≡ self.now }
+    {
+        match ArrayVec::try_from(self.letters.as_slice()) {
+            Ok(letters) => UldId { letters },
+            Err(_) => unreachable!(),
+        }
+    }
+
     /// The kind: the first three letters.
     pub fn kind(&self) -> &[u8]
         ensures { result.now ≡ take 3 self.now }
@@ -84,7 +105,8 @@ impl UldId {
 
     /// The letters of the identity.
     pub fn bytes(&self) -> &[u8]
-        ensures { result.now ≡ self.now }
+        ensures value { result.now ≡ self.now }
+        ensures spelled { IsUldId self.now }
     {
         self.letters.as_slice()
     }

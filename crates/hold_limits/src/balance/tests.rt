@@ -4,6 +4,7 @@ ghost use Rattle.hold_limits.specs.declared.lists.Fit.{Fit};
 ghost use Rattle.hold_limits.specs.Spellings.{IsKind};
 
 use super::*;
+use crate::fault::TaskFault;
 use crate::lists::Fit;
 use crate::parts::{Item, Loose, Position};
 use crate::sound::is_sound;
@@ -139,5 +140,39 @@ fn the_distance_is_to_the_nearer_end_of_the_band(rt: HostRuntime) -> Result<(), 
             "at {take_off}"
         );
     }
+    Ok(())
+}
+
+#[test]
+fn an_index_beyond_the_limit_is_named_by_its_place(rt: HostRuntime) -> Result<(), Fail> {
+    let alloc = rt.alloc();
+    for which in 1..6 {
+        let at = |place: usize| Ticks(if place == which { -1_000_000_001 } else { 0 });
+        let made = Task::new(
+            hold(alloc)?,
+            Vec::new(alloc),
+            Vec::new(alloc),
+            at(1),
+            at(2),
+            at(3),
+            at(4),
+            at(5),
+        );
+        assert_eq!(rt; made.err(), Some(TaskFault::Range(which)));
+    }
+    Ok(())
+}
+
+#[test]
+fn a_copy_is_the_same_task_and_another_window_is_not(rt: HostRuntime) -> Result<(), Fail> {
+    let alloc = rt.alloc();
+    let load = Loose {
+        position: 4,
+        mass: Kg(0),
+    };
+    let one = task(alloc, &[load], 5_000_000, 5_000_000)?;
+    assert!(rt; one.same(&one.copy(alloc)?));
+    assert!(rt; !one.same(&task(alloc, &[], 5_000_000, 5_000_000)?));
+    assert!(rt; !one.same(&task(alloc, &[load], 5_000_000, 5_000_001)?));
     Ok(())
 }

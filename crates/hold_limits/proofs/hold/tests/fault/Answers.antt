@@ -1,0 +1,25 @@
+use Rattle.std.proofs.Common.{◌≤◌, List, [], ◌∷◌}
+use Rattle.std.proofs.lemmas.List.Elements.{All-from_recursion, All-same}
+use Rattle.std.specs.Prelude.{All}
+use Rattle.hold_limits.specs.declared.lists.Fit.{Fit}
+use Rattle.hold_limits.specs.declared.parts.Position.{Position}
+use Rattle.hold_limits.specs.Spellings.{IsKind}
+use Rattle.hold_limits.proofs.hold.tests.fault.Goals as goal
+
+HasDigit : Position → Type 0
+HasDigit place = place.compartment ≤ 9
+
+HasKinds : Position → Type 0
+HasKinds place = All (λ (fit : Fit). IsKind fit.kind) place.fits
+
+pub new-requires : goal.new-requires
+unfolding HasDigit HasKinds
+new-requires c =
+    let a = c.in_ok-bulk in
+    let one : List Position = a.field-0 ∷ [] in
+    record {
+      compartments = All-same HasDigit _ one c.in_ok-positions.ensures.items (All-from_recursion HasDigit one (a.ensures.digit, tt));
+      kinds = All-same HasKinds _ one c.in_ok-positions.ensures.items (All-from_recursion HasKinds one (a.ensures.kinds, tt));
+      combined = c.requires.combined;
+      cumulative = c.requires.cumulative;
+    }

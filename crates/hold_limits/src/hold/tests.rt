@@ -1,0 +1,82 @@
+// Faults of limits that no text of a task can have, since a text names positions that are there.
+ghost use Rattle.std.specs.Prelude.{◌≡◌, ◌≤◌, All, IfOk};
+ghost use Rattle.hold_limits.specs.declared.lists.Fit.{Fit};
+ghost use Rattle.hold_limits.specs.declared.parts.Combined.{Combined};
+ghost use Rattle.hold_limits.specs.declared.parts.Cumulative.{Cumulative};
+ghost use Rattle.hold_limits.specs.Spellings.{IsKind};
+
+use super::*;
+use crate::lists::Places;
+use crate::texts::Name;
+use mass_units::Kg;
+use std::alloc::Global;
+use std::test::Fail;
+
+// A bulk position.
+fn bulk(alloc: Global) -> Result<Position, Fail>
+    ensures digit { IfOk result (λ place. place.compartment ≤ 9) }
+    ensures kinds { IfOk result (λ place. All (λ (fit : Fit). IsKind fit.kind) place.fits) }
+{
+    Ok(Position {
+        name: Name::read(b"51").ok_or("a name")?,
+        compartment: 5,
+        influence: 700,
+        bulk: true,
+        fits: Vec::new(alloc).into(),
+    })
+}
+
+// The fault of a hold of one bulk position with these limits.
+fn fault(
+    alloc: Global,
+    excludes: Vec<(u8, u8)>,
+    combined: Vec<Combined>,
+    cumulative: Vec<Cumulative>,
+) -> Result<Option<HoldFault>, Fail>
+    requires combined { All (λ (limit : Combined). limit.most.0 ≤ 999999999) combined.items }
+    requires cumulative { All (λ (limit : Cumulative). limit.most.0 ≤ 999999999) cumulative.items }
+{
+    let positions = vec![in alloc; bulk(alloc)?]?;
+    Ok(Hold::new(positions, excludes, combined, cumulative).err())
+}
+
+#[test]
+fn limits_on_unknown_positions_are_named(rt: HostRuntime) -> Result<(), Fail> {
+    let alloc = rt.alloc();
+    let none = fault(alloc, Vec::new(alloc), Vec::new(alloc), Vec::new(alloc))?;
+    assert_eq!(rt; none, None);
+    let unknown = vec![in alloc; (0, 1)]?;
+    let exclude = fault(alloc, unknown, Vec::new(alloc), Vec::new(alloc))?;
+    assert_eq!(rt; exclude, Some(HoldFault::Exclude(0)));
+    let limits = vec![in alloc;
+        Cumulative {
+            forward: true,
+            place: 0,
+            most: Kg(900)
+        },
+        Cumulative {
+            forward: false,
+            place: 1,
+            most: Kg(900)
+        },
+    ]?;
+    let cumulative = fault(alloc, Vec::new(alloc), Vec::new(alloc), limits)?;
+    assert_eq!(rt; cumulative, Some(HoldFault::Cumulative(1)));
+    Ok(())
+}
+
+#[test]
+fn a_combined_limit_names_known_positions(rt: HostRuntime) -> Result<(), Fail> {
+    let alloc = rt.alloc();
+    for places in [b"\x01".as_slice(), b""] {
+        let limits = vec![in alloc;
+            Combined {
+                places: Places::from(places.to_vec(alloc)?),
+                most: Kg(900)
+            },
+        ]?;
+        let combined = fault(alloc, Vec::new(alloc), limits, Vec::new(alloc))?;
+        assert_eq!(rt; combined, Some(HoldFault::Combined(0)));
+    }
+    Ok(())
+}
