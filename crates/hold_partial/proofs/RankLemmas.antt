@@ -1,0 +1,264 @@
+-- the first and the last open rank have the least and the greatest moment
+use Rattle.std.proofs.Common.{◌≡◌, ◌≢◌, ⊎_elim, ℕ, zero, suc, ◌*◌, ◌<◌, ◌≤◌, ℤ, pos, negsuc, ◌*ℤ◌, ◌≤ℤ◌, Bool, true, false, ◌||◌, ◌==◌, List, [], ◌∷◌, ◌++◌, length, get_or, map, Option, Some, None, refl, ap, sym, subst, ◌∙◌, arith, int_lt, cond, fold, eqb-true, add-one}
+use Rattle.std.proofs.Math.IntN.{neg_ℤ}
+use Rattle.std.proofs.Math.Nat.{mul-le-mul_left}
+use Rattle.std.proofs.lemmas.Bool.{cases_Bool, false≢true, and_parts}
+use Rattle.std.proofs.lemmas.Bool.Decides.{nat_tests}
+use Rattle.std.proofs.lemmas.Int.{ints}
+use Rattle.std.proofs.lemmas.List.Elements.{at_from_Contains}
+use Rattle.std.proofs.lemmas.List.Folds.{list_any-append}
+use Rattle.std.proofs.lemmas.Option.{slice_get-get_or, slice_get_cases, get_or_from_slice_get}
+use Rattle.std.specs.Prelude.{slice_get}
+use Rattle.std.specs.Int.{int_min, int_max}
+use Rattle.std.specs.List.{filter, list_any, range_with_len, AllByRecursion}
+use Rattle.hold_limits.specs.declared.parts.Item.{Item}
+use Rattle.hold_limits.specs.Layout.{Layout}
+use Rattle.hold_limits.specs.Problem.{Problem}
+use Rattle.hold_limits.specs.Enumeration.{is_accepted}
+use Rattle.hold_limits.specs.Placement.{influence_at, placed_moment}
+use Rattle.hold_partial.specs.declared.ends.Ends.{Ends}
+use Rattle.hold_partial.specs.Arrangement.{Ranked, ranked_of, IsByInfluence, at_rank}
+use Rattle.hold_partial.specs.Ends.{HasEnds}
+use Rattle.hold_partial.specs.Levels.{AreRankEnds}
+use Rattle.hold_partial.specs.Reach.{is_open, open_moments, least, greatest}
+use Rattle.hold_partial.proofs.EndsLemmas.{range-more}
+use Rattle.hold_partial.proofs.SoundNext.{accepted-known}
+
+-- Ends of lists ---------------------------------------------------------------------------------
+
+-- an order of numbers, with the one of two that comes first in it
+record Order (before : ℤ → ℤ → Type 0) (pick : ℤ → ℤ → ℤ) : Type 0 where
+  through : (x y z : ℤ) → before x y → before y z → before x z
+  itself : (x : ℤ) → before x x
+  same : (x y : ℤ) → before x y → before y x → x ≡ y
+  first : (x y : ℤ) → before (pick x y) x
+  second : (x y : ℤ) → before (pick x y) y
+  both : (m x y : ℤ) → before m x → before m y → before m (pick x y)
+
+pick-first : (b : Bool) (x y : ℤ) → int_lt y x ≡ b → cond b y x ≤ℤ x
+pick-first true x y is = omega (arith, ints)
+pick-first false x y is = omega (arith, ints)
+
+pick-second : (b : Bool) (x y : ℤ) → int_lt y x ≡ b → cond b y x ≤ℤ y
+pick-second true x y is = omega (arith, ints)
+pick-second false x y is = omega (arith, ints)
+
+pick-both : (b : Bool) (m x y : ℤ) → m ≤ℤ x → m ≤ℤ y → m ≤ℤ cond b y x
+pick-both true m x y first second = second
+pick-both false m x y first second = first
+
+least-order : Order (λ x y. x ≤ℤ y) int_min
+least-order = record {
+  through = λ x y z xy yz. omega (arith, ints);
+  itself = λ x. omega (arith, ints);
+  same = λ x y xy yx. omega (arith, ints);
+  first = λ x y. pick-first (int_lt y x) x y refl;
+  second = λ x y. pick-second (int_lt y x) x y refl;
+  both = λ m x y mx my. pick-both (int_lt y x) m x y mx my;
+}
+
+max-first : (b : Bool) (x y : ℤ) → int_lt y x ≡ b → x ≤ℤ cond b x y
+max-first true x y is = omega (arith, ints)
+max-first false x y is = omega (arith, ints)
+
+max-second : (b : Bool) (x y : ℤ) → int_lt y x ≡ b → y ≤ℤ cond b x y
+max-second true x y is = omega (arith, ints)
+max-second false x y is = omega (arith, ints)
+
+max-both : (b : Bool) (m x y : ℤ) → x ≤ℤ m → y ≤ℤ m → cond b x y ≤ℤ m
+max-both true m x y first second = first
+max-both false m x y first second = second
+
+greatest-order : Order (λ x y. y ≤ℤ x) int_max
+greatest-order = record {
+  through = λ x y z xy yz. omega (arith, ints);
+  itself = λ x. omega (arith, ints);
+  same = λ x y xy yx. omega (arith, ints);
+  first = λ x y. max-first (int_lt y x) x y refl;
+  second = λ x y. max-second (int_lt y x) x y refl;
+  both = λ m x y mx my. max-both (int_lt y x) m x y mx my;
+}
+
+-- the number is one of the list
+abbrev In : List ℕ → ℕ → Type 0
+In ns q = list_any (λ k. k == q) ns ≡ true
+
+or-left : (a b : Bool) → a ≡ true → (a || b) ≡ true
+or-left a b is = rw is refl
+
+or-right : (a b : Bool) → b ≡ true → (a || b) ≡ true
+or-right true b is = refl
+or-right false b is = is
+
+self-in : (n : ℕ) → (n == n) ≡ true
+self-in n = grind (arith, nat_tests)
+
+in-filter : (p : ℕ → Bool) (ns : List ℕ) (q : ℕ) → In ns q → p q ≡ true → In (filter p ns) q
+in-filter p [] q is passes = is
+in-filter p (n ∷ ns) q is passes = ⊎_elim
+    (λ (here : (n == q) ≡ true).
+    let same : n ≡ q = eqb-true n q here in
+    let also : p n ≡ true = ap p same ∙ passes in
+    rw also (or-left (n == q) (list_any (λ k. k == q) (filter p ns)) here))
+    (λ (other : (n == q) ≡ false). kept (p n) n (filter p ns) q (in-filter p ns q (rw other at is) passes))
+    (cases_Bool (n == q))
+  where
+    kept : (b : Bool) (n : ℕ) (rest : List ℕ) (q : ℕ) → In rest q → In (cond b (n ∷ rest) rest) q
+    kept true n rest q is = or-right (n == q) (list_any (λ k. k == q) rest) is
+    kept false n rest q is = is
+
+in-range : (n q : ℕ) → q < n → In (range_with_len 0 n) q
+in-range zero q less = absurd (omega arith)
+in-range (suc n) q less =
+    let more : range_with_len 0 (suc n) ≡ range_with_len 0 n ++ n ∷ [] = ap (range_with_len 0) (sym (add-one n)) ∙ range-more n in
+    let split : list_any (λ k. k == q) (range_with_len 0 (suc n)) ≡ (list_any (λ k. k == q) (range_with_len 0 n) || ((n == q) || false)) =
+    ap (list_any (λ k. k == q)) more ∙ list_any-append (λ k. k == q) (range_with_len 0 n) (n ∷ []) in
+    split ∙ ⊎_elim
+    (λ (here : (n == q) ≡ true). or-right (list_any (λ k. k == q) (range_with_len 0 n)) ((n == q) || false) (or-left (n == q) false here))
+    (λ (other : (n == q) ≡ false). or-left (list_any (λ k. k == q) (range_with_len 0 n)) ((n == q) || false) (in-range n q (let differ : (n == q) ≡ false = other in below n q less differ)))
+    (cases_Bool (n == q))
+  where
+    below : (n q : ℕ) → q < suc n → (n == q) ≡ false → q < n
+    below n q less differ = grind (arith, nat_tests)
+
+-- what the filter keeps passes
+each-passes : (p : ℕ → Bool) (ns : List ℕ) → AllByRecursion (λ q. p q ≡ true) (filter p ns)
+each-passes p [] = tt
+each-passes p (n ∷ ns) = ⊎_elim
+    (λ (passes : p n ≡ true). rw passes (passes, each-passes p ns))
+    (λ (fails : p n ≡ false). rw fails (each-passes p ns))
+    (cases_Bool (p n))
+
+fold-start : (before : ℤ → ℤ → Type 0) (pick : ℤ → ℤ → ℤ) → Order before pick → (f : ℕ → ℤ) (a : ℤ) (qs : List ℕ) → before (fold pick a (map f qs)) a
+fold-start before pick order f a [] = order.itself a
+fold-start before pick order f a (q ∷ qs) = order.through _ _ _ (fold-start before pick order f (pick a (f q)) qs) (order.first a (f q))
+
+fold-each : (before : ℤ → ℤ → Type 0) (pick : ℤ → ℤ → ℤ) → Order before pick → (f : ℕ → ℤ) (a : ℤ) (qs : List ℕ) (q : ℕ) → In qs q → before (fold pick a (map f qs)) (f q)
+fold-each before pick order f a [] q is = absurd (false≢true is)
+fold-each before pick order f a (k ∷ qs) q is = ⊎_elim
+    (λ (here : (k == q) ≡ true).
+    let same : k ≡ q = eqb-true k q here in
+    subst (λ j. before (fold pick (pick a (f k)) (map f qs)) (f j)) same
+    (order.through _ _ _ (fold-start before pick order f (pick a (f k)) qs) (order.second a (f k))))
+    (λ (other : (k == q) ≡ false). fold-each before pick order f (pick a (f k)) qs q (rw other at is))
+    (cases_Bool (k == q))
+
+fold-bound : (before : ℤ → ℤ → Type 0) (pick : ℤ → ℤ → ℤ) → Order before pick → (f : ℕ → ℤ) (m a : ℤ) (qs : List ℕ) → before m a → AllByRecursion (λ q. before m (f q)) qs → before m (fold pick a (map f qs))
+fold-bound before pick order f m a [] start each = start
+fold-bound before pick order f m a (q ∷ qs) start each = fold-bound before pick order f m (pick a (f q)) qs (order.both m a (f q) start each.0) each.1
+
+-- the extreme of some numbers, which is that of one that comes before all
+end-is : (before : ℤ → ℤ → Type 0) (pick : ℤ → ℤ → ℤ) → Order before pick → (f : ℕ → ℤ) (q : ℕ) (k : ℕ) (qs : List ℕ) → In (k ∷ qs) q → AllByRecursion (λ j. before (f q) (f j)) (k ∷ qs) → fold pick (f k) (map f qs) ≡ f q
+end-is before pick order f q k qs is each =
+    let to : before (fold pick (f k) (map f qs)) (f q) = ⊎_elim
+    (λ (here : (k == q) ≡ true). subst (λ j. before (fold pick (f k) (map f qs)) (f j)) (eqb-true k q here) (fold-start before pick order f (f k) qs))
+    (λ (other : (k == q) ≡ false). fold-each before pick order f (f k) qs q (rw other at is))
+    (cases_Bool (k == q)) in
+    order.same _ _ to (fold-bound before pick order f (f q) (f k) qs each.0 each.1)
+
+each-weaker : {X : Type 0} (P Q : X → Type 0) (weaker : (x : X) → P x → Q x) (xs : List X) → AllByRecursion P xs → AllByRecursion Q xs
+each-weaker P Q weaker [] each = each
+each-weaker P Q weaker (x ∷ xs) each = (weaker x each.0, each-weaker P Q weaker xs each.1)
+
+ends-are : (f : ℕ → ℤ) (first last : ℕ) (qs : List ℕ) → In qs first → In qs last → AllByRecursion (λ q. (f first ≤ℤ f q) × (f q ≤ℤ f last)) qs
+    → (map f qs ≢ []) × (f first ≡ least (map f qs)) × (f last ≡ greatest (map f qs))
+ends-are f first last [] in_first in_last each = absurd (false≢true in_first)
+ends-are f first last (q ∷ qs) in_first in_last each = (
+  (λ is. cc),
+  sym (end-is (λ x y. x ≤ℤ y) int_min least-order f first q qs in_first (each-weaker (λ k. (f first ≤ℤ f k) × (f k ≤ℤ f last)) (λ k. f first ≤ℤ f k) (λ k both. both.0) (q ∷ qs) each)),
+  sym (end-is (λ x y. y ≤ℤ x) int_max greatest-order f last q qs in_last (each-weaker (λ k. (f first ≤ℤ f k) × (f k ≤ℤ f last)) (λ k. f k ≤ℤ f last) (λ k both. both.1) (q ∷ qs) each)),
+)
+
+filter-fails : (p : ℕ → Bool) (ns : List ℕ) → ((q : ℕ) → p q ≡ false) → filter p ns ≡ []
+filter-fails p [] fails = refl
+filter-fails p (n ∷ ns) fails = rw (fails n) (filter-fails p ns fails)
+
+-- Moments ---------------------------------------------------------------------------------------
+
+neg-below : (n k : ℕ) → neg_ℤ (pos n) ≤ℤ pos k
+neg-below zero k = omega (arith, ints)
+neg-below (suc n) k = omega (arith, ints)
+
+neg-order : (n k : ℕ) → k ≤ n → neg_ℤ (pos n) ≤ℤ neg_ℤ (pos k)
+neg-order zero zero less = omega (arith, ints)
+neg-order zero (suc k) less = absurd (omega arith)
+neg-order (suc n) zero less = omega (arith, ints)
+neg-order (suc n) (suc k) less = omega (arith, ints)
+
+-- the same mass has the greater moment at the greater influence
+moment-order : (mass : ℕ) (a b : ℤ) → a ≤ℤ b → (pos mass *ℤ a) ≤ℤ (pos mass *ℤ b)
+moment-order mass (pos x) (pos y) less =
+    let close : x ≤ y = omega (arith, ints) in
+    let product : mass * x ≤ mass * y = mul-le-mul_left mass close in
+    omega (arith, ints, product)
+moment-order mass (pos x) (negsuc y) less = absurd (omega (arith, ints))
+moment-order mass (negsuc x) (pos y) less = neg-below (mass * suc x) (mass * y)
+moment-order mass (negsuc x) (negsuc y) less =
+    let close : suc y ≤ suc x = omega (arith, ints) in
+    neg-order (mass * suc x) (mass * suc y) (mul-le-mul_left mass close)
+
+-- Ranks -----------------------------------------------------------------------------------------
+
+rank-of : (hold : Layout) (ranks : List Ranked) → IsByInfluence hold ranks → (q : ℕ) → q < length hold.positions → (r : ℕ) × (r < length ranks) × (slice_get ranks r ≡ Some (ranked_of hold q))
+rank-of hold ranks arranged q below =
+    let at = at_from_Contains ranks (ranked_of hold q) (arranged.every q below) in
+    (at.0, at.1, slice_get-get_or ranks at.0 (ranked_of hold q) at.1 ∙ ap (λ (e : Ranked). Some e) (at.2 (ranked_of hold q)))
+
+-- a rank that passes is that of a position which does
+pub rank-passes : (p : ℕ → Bool) (ranks : List Ranked) (r : ℕ) → at_rank p ranks r ≡ true → (e : Ranked) × (r < length ranks) × (slice_get ranks r ≡ Some e) × (p e.1 ≡ true)
+rank-passes p ranks r passes = ⊎_elim
+    (λ here. (here.0, here.1, here.2, rw here.2 at passes))
+    (λ past. absurd (false≢true (rw past.1 at passes)))
+    (slice_get_cases ranks r).1
+
+pub open-known : (t : Problem) (prefix : List ℕ) (item : Item) (q : ℕ) → is_open t prefix item q ≡ true → q < length t.hold.positions
+open-known t prefix item q passes = (accepted-known t.hold item q (and_parts (is_accepted t.hold (item, q)) _ passes).0).0
+
+no-ends : (t : Problem) (prefix : List ℕ) (item : Item) (ranks : List Ranked) → IsByInfluence t.hold ranks → (passes : ℕ → Bool) → ((r : ℕ) → passes r ≡ at_rank (is_open t prefix item) ranks r)
+    → ((r : ℕ) → passes r ≡ false) → open_moments t prefix item ≡ []
+no-ends t prefix item ranks arranged passes same none =
+    let p = is_open t prefix item in
+    ap (map (λ q. placed_moment t.hold (item, q))) (filter-fails p (range_with_len 0 (length t.hold.positions)) (λ q. ⊎_elim
+    (λ (opens : p q ≡ true).
+    let rank = rank-of t.hold ranks arranged q (open-known t prefix item q opens) in
+    let at : at_rank p ranks rank.0 ≡ true = rw rank.2 opens in
+    absurd (false≢true (sym (none rank.0) ∙ same rank.0 ∙ at)))
+    (λ (closed : p q ≡ false). closed)
+    (cases_Bool (p q))))
+
+some-ends : (t : Problem) (prefix : List ℕ) (item : Item) (ranks : List Ranked) → IsByInfluence t.hold ranks → (passes : ℕ → Bool) → ((r : ℕ) → passes r ≡ at_rank (is_open t prefix item) ranks r)
+    → (e : Ends) → AreRankEnds passes item.mass.0 ranks (Some e) → HasEnds (open_moments t prefix item) (Some e)
+some-ends t prefix item ranks arranged passes same e ends =
+    let p = is_open t prefix item in
+    let f : ℕ → ℤ = λ q. placed_moment t.hold (item, q) in
+    let n : ℕ = length t.hold.positions in
+    let a = rank-passes p ranks ends.0 (sym (same ends.0) ∙ ends.2) in
+    let b = rank-passes p ranks ends.1 (sym (same ends.1) ∙ ends.3) in
+    let a_at : get_or ranks ends.0 a.0 ≡ a.0 = get_or_from_slice_get ranks ends.0 a.0 a.0 a.2 in
+    let b_at : get_or ranks ends.1 a.0 ≡ b.0 = get_or_from_slice_get ranks ends.1 b.0 a.0 b.2 in
+    let a_known : a.0.0 ≡ influence_at t.hold a.0.1 = (rw a_at at (arranged.known ends.0 a.0 a.1)).1 in
+    let b_known : b.0.0 ≡ influence_at t.hold b.0.1 = (rw b_at at (arranged.known ends.1 a.0 b.1)).1 in
+    let between : (q : ℕ) → p q ≡ true → (f a.0.1 ≤ℤ f q) × (f q ≤ℤ f b.0.1) = λ q opens.
+    let rank = rank-of t.hold ranks arranged q (open-known t prefix item q opens) in
+    let at : at_rank p ranks rank.0 ≡ true = rw rank.2 opens in
+    let order = ends.4 rank.0 (same rank.0 ∙ at) in
+    let r_at : get_or ranks rank.0 a.0 ≡ ranked_of t.hold q = get_or_from_slice_get ranks rank.0 (ranked_of t.hold q) a.0 rank.2 in
+    let from = rw (a_at, r_at, a_known) at (arranged.rising ends.0 rank.0 a.0 order.0 rank.1) in
+    let to = rw (r_at, b_at, b_known) at (arranged.rising rank.0 ends.1 a.0 order.1 b.1) in
+    (moment-order item.mass.0 _ _ from, moment-order item.mass.0 _ _ to) in
+    let qs = filter p (range_with_len 0 n) in
+    let found = ends-are f a.0.1 b.0.1 qs
+    (in-filter p (range_with_len 0 n) a.0.1 (in-range n a.0.1 (open-known t prefix item a.0.1 a.3)) a.3)
+    (in-filter p (range_with_len 0 n) b.0.1 (in-range n b.0.1 (open-known t prefix item b.0.1 b.3)) b.3)
+    (each-weaker (λ q. p q ≡ true) (λ q. (f a.0.1 ≤ℤ f q) × (f q ≤ℤ f b.0.1)) between qs (each-passes p (range_with_len 0 n))) in
+    let values = ends.5 a.0 in (
+      found.0,
+      rw (a_at, a_known) at values.0 ∙ found.1,
+      rw (b_at, b_known) at values.1 ∙ found.2,
+    )
+
+-- the ends on the ranks of a container's open positions are its least and greatest moments
+pub rank-ends : (t : Problem) (prefix : List ℕ) (item : Item) (ranks : List Ranked) → IsByInfluence t.hold ranks → (passes : ℕ → Bool) → ((r : ℕ) → passes r ≡ at_rank (is_open t prefix item) ranks r)
+    → (ends : Option Ends) → AreRankEnds passes item.mass.0 ranks ends → HasEnds (open_moments t prefix item) ends
+rank-ends t prefix item ranks arranged passes same None none = no-ends t prefix item ranks arranged passes same none
+rank-ends t prefix item ranks arranged passes same (Some e) ends = some-ends t prefix item ranks arranged passes same e ends

@@ -1,0 +1,9 @@
+use Rattle.std.proofs.Common.{arith}
+use Rattle.hold_partial.proofs.SetLemmas.{has-none, first-is}
+use Rattle.hold_partial.proofs.position_set.PositionSet.first.Goals as goal
+
+pub returns-then-self-eq0 : goal.returns-then-self-eq0
+returns-then-self-eq0 c = has-none c.args.self (omega (arith))
+
+pub returns-else-self-eq0 : goal.returns-else-self-eq0
+returns-else-self-eq0 c = first-is c.args.self (omega arith) (omega arith)

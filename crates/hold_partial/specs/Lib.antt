@@ -1,0 +1,11 @@
+pub mod Placing
+pub mod Rules
+pub mod Reach
+pub mod Choices
+pub mod Limits
+pub mod Ends
+pub mod Sets
+pub mod Arrangement
+pub mod Tables
+pub mod Levels
+pub mod Kept
