@@ -1,0 +1,265 @@
+// The search beside a trial of every list of position numbers, over small tasks.
+ghost use Rattle.std.specs.Prelude.{◌≤◌, All, IfOk};
+ghost use Rattle.hold_limits.specs.declared.lists.Fit.{Fit};
+ghost use Rattle.hold_limits.specs.Spellings.{IsKind};
+
+use super::*;
+use hold_limits::{
+    Combined, Cumulative, Fit, Hold, Item, Loose, Name, Path, Position, UldId, hold_index_of,
+    is_in_window, is_sound, outcome,
+};
+use mass_units::{Kg, Ticks};
+use std::test::Fail;
+
+// A position for containers of kind AKE of at most 1,500 kg, or a bulk position.
+fn position(alloc: Global, name: &[u8], influence: i32, bulk: bool) -> Result<Position, Fail>
+    ensures compartment { IfOk result (λ place. place.compartment ≤ 9) }
+    ensures kinds { IfOk result (λ place. All (λ (fit : Fit). IsKind fit.kind) place.fits) }
+{
+    let mut fits = Vec::new(alloc);
+    if !bulk {
+        fits.push(Fit {
+            kind: *b"AKE",
+            most: Kg(1500),
+        })?;
+    }
+    Ok(Position {
+        name: Name::read(name).ok_or("a name")?,
+        compartment: 1,
+        influence,
+        bulk,
+        fits: fits.into(),
+    })
+}
+
+// A small task: in a hold with the container positions 0 to 3 and the bulk position 4, of base 50.00000.
+#[derive(Clone, Copy)]
+struct Case {
+    name: &'static str,
+    masses: &'static [u32],
+    excludes: &'static [(u8, u8)],
+    // The greatest load of the positions 0 and 4 together, and of the positions 0 and 1.
+    combined: u32,
+    cumulative: u32,
+    // A loose load on the bulk position.
+    loose: u32,
+    // The window and the ideal band.
+    window: (i64, i64),
+    ideal: (i64, i64),
+}
+
+// What a limit allows.
+fn most(mass: u32) -> Kg
+    ensures { result.0 ≤ 999999999 }
+{
+    Kg(mass.min(999_999_999))
+}
+
+fn hold(alloc: Global, case: &Case) -> Result<Hold, Fail> {
+    let positions = vec![in alloc;
+        position(alloc, b"11", -600, false)?,
+        position(alloc, b"12", -400, false)?,
+        position(alloc, b"41", 400, false)?,
+        position(alloc, b"42", 600, false)?,
+        position(alloc, b"51", 700, true)?,
+    ]?;
+    let combined = vec![in alloc;
+        Combined {
+            places: vec![in alloc; 0, 4]?.into(),
+            most: most(case.combined)
+        },
+    ]?;
+    let cumulative = vec![in alloc;
+        Cumulative {
+            forward: true,
+            place: 1,
+            most: most(case.cumulative)
+        },
+    ]?;
+    Ok(Hold::new(
+        positions,
+        case.excludes.to_vec(alloc)?,
+        combined,
+        cumulative,
+    )?)
+}
+
+fn task(alloc: Global, case: &Case) -> Result<Task, Fail> {
+    let names: [&[u8]; 5] = [
+        b"AKE10001XX",
+        b"AKE10002XX",
+        b"AKE10003XX",
+        b"AKE10004XX",
+        b"AKE10005XX",
+    ];
+    let mut items = Vec::new(alloc);
+    for (name, mass) in names.iter().zip(case.masses) {
+        items.push(Item {
+            id: UldId::read(name).ok_or("an identity")?,
+            mass: Kg(*mass),
+        })?;
+    }
+    let loose = vec![in alloc;
+        Loose {
+            position: 4,
+            mass: Kg(case.loose)
+        },
+    ]?;
+    Ok(Task::new(
+        hold(alloc, case)?,
+        items,
+        loose,
+        Ticks(5_000_000),
+        Ticks(case.window.0),
+        Ticks(case.window.1),
+        Ticks(case.ideal.0),
+        Ticks(case.ideal.1),
+    )?)
+}
+
+// All lists of this length of position numbers.
+fn all_lists(alloc: Global, length: usize) -> Result<Vec<Vec<u8>>, Fail> {
+    let mut lists = Vec::new(alloc);
+    lists.push(Vec::new(alloc))?;
+    for _ in 0..length {
+        let mut longer = Vec::new(alloc);
+        for list in &lists {
+            for number in 0..5 {
+                let mut next: Vec<u8> = list.clone()?;
+                next.push(number)?;
+                longer.push(next)?;
+            }
+        }
+        lists = longer;
+    }
+    Ok(lists)
+}
+
+// The best path, found by trying every list, if there is one.
+fn best_by_trial(alloc: Global, task: &Task) -> Result<Option<Vec<u8>>, Fail> {
+    let mut keys = Vec::new(alloc);
+    for list in all_lists(alloc, task.items().len())? {
+        if !is_sound(task, list.as_slice()) {
+            continue;
+        }
+        let path = Path::try_from(list.as_slice())?;
+        if is_in_window(task, hold_index_of(task, path.as_slice())) {
+            let (_, distance) = outcome(task, &path);
+            keys.push((distance, list))?;
+        }
+    }
+    keys.sort()?;
+    Ok(keys.into_iter().next().map(|key| key.1))
+}
+
+fn best_path(plain: &Plain) -> Option<&[u8]> {
+    match plain {
+        Plain::Best(path) => Some(path.as_slice()),
+        Plain::NoneFits | Plain::Budget(_) => None,
+    }
+}
+
+const WIDE: (i64, i64) = (-10_000_000, 10_000_000);
+
+const MIDDLE: (i64, i64) = (5_000_000, 5_000_000);
+
+const FREE: u32 = 999_999_999;
+
+const WORKED: Case = Case {
+    name: "the worked task",
+    masses: &[1000, 800],
+    excludes: &[],
+    combined: FREE,
+    cumulative: FREE,
+    loose: 0,
+    window: WIDE,
+    ideal: MIDDLE,
+};
+
+const SMALL_TASKS: [Case; 12] = [
+    WORKED,
+    Case {
+        name: "an excluding pair",
+        excludes: &[(1, 2)],
+        ..WORKED
+    },
+    Case {
+        name: "a combined limit and a loose load",
+        combined: 1300,
+        loose: 301,
+        window: (-20_000_000, 0),
+        ..WORKED
+    },
+    Case {
+        name: "the same limit met exactly",
+        combined: 1300,
+        loose: 300,
+        window: (-20_000_000, 0),
+        ..WORKED
+    },
+    Case {
+        name: "a cumulative limit",
+        cumulative: 999,
+        ..WORKED
+    },
+    Case {
+        name: "equal masses",
+        masses: &[900, 900, 900],
+        ideal: (5_100_000, 5_100_000),
+        ..WORKED
+    },
+    Case {
+        name: "equal distances",
+        masses: &[700, 600],
+        ideal: (0, 10_000_000),
+        ..WORKED
+    },
+    Case {
+        name: "a full hold",
+        masses: &[1, 2, 3, 4],
+        window: (-100_000, 100_000),
+        ..WORKED
+    },
+    Case {
+        name: "too many containers",
+        masses: &[1, 2, 3, 4, 5],
+        ..WORKED
+    },
+    Case {
+        name: "a crossed window",
+        window: (1, -1),
+        ..WORKED
+    },
+    Case {
+        name: "a window of one index",
+        window: (0, 0),
+        ..WORKED
+    },
+    Case {
+        name: "loose loads over a limit",
+        combined: 99,
+        loose: 100,
+        ..WORKED
+    },
+];
+
+#[test]
+fn the_search_finds_what_a_trial_finds(rt: HostRuntime) -> Result<(), Fail> {
+    for case in SMALL_TASKS {
+        let task = task(rt.alloc(), &case)?;
+        let best = best_by_trial(rt.alloc(), &task)?;
+        let plain = search(rt.alloc(), &task, 50_000)?;
+        assert_eq!(rt; best_path(&plain), best.as_deref(), "at {}", case.name);
+        assert!(rt; !matches!(plain, Plain::Budget(_)), "at {}", case.name);
+    }
+    Ok(())
+}
+
+#[test]
+fn the_worked_task_needs_a_budget_of_8(rt: HostRuntime) -> Result<(), Fail> {
+    let task = task(rt.alloc(), &WORKED)?;
+    let plain = search(rt.alloc(), &task, 8)?;
+    assert_eq!(rt; best_path(&plain), Some(&[1u8, 2][..]));
+    assert!(rt; matches!(search(rt.alloc(), &task, 7)?, Plain::Budget(7)));
+    Ok(())
+}
