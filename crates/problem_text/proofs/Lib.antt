@@ -1,5 +1,14 @@
 pub mod CutLemmas
 pub mod WordLemmas
-pub mod FitLemmas
+pub mod NameLemmas
+pub mod RunLemmas
+pub mod PositionLemmas
+pub mod SectionLemmas
+pub mod LimitLemmas
 pub mod LineLemmas
 pub mod TaskLemmas
+pub mod RefusalLemmas
+pub mod ReadLemmas
+pub mod KeepLemmas
+pub mod WriterLemmas
+pub mod SpelledTask

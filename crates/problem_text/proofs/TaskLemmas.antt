@@ -1,114 +1,199 @@
--- the text of a task is that of its sections
-use Rattle.std.proofs.Common.{◌≡◌, ℕ, ◌++◌, ◌∷◌, List, [], map, get_or, refl, sym, ◌∙◌, ap, arith, All, codes}
+-- the lines of a task say its sections in one way only
+use Rattle.std.proofs.Common.{◌≡◌, ℕ, ◌<◌, Bool, true, false, cond, eqb, ◌++◌, ◌∷◌, List, [], map, refl, sym, ◌∙◌, ap, subst, arith, All, codes, lit<}
 use Rattle.std.proofs.lemmas.List.{append_assoc, append_cancel_left}
-use Rattle.std.proofs.lemmas.List.Elements.{All-nil}
+use Rattle.std.proofs.lemmas.List.Elements.{All-head, All-tail, All-weaker}
 use Rattle.hold_limits.specs.Problem.{Problem}
-use Rattle.hold_limits.specs.Faults.{IsWellSpelled}
+use Rattle.hold_limits.specs.declared.parts.Position.{Position}
+use Rattle.hold_limits.specs.declared.parts.Combined.{Combined}
+use Rattle.hold_limits.specs.declared.parts.Cumulative.{Cumulative}
 use Rattle.hold_limits.specs.declared.parts.Item.{Item}
-use Rattle.problem_text.specs.Cuts.{BeginsWithNone}
-use Rattle.problem_text.specs.TaskText.{text_of, task_lines, position_line, item_line, base_line, window_line, ideal_line, IsSpelledPosition, IsSpelledItem, IsSpelled, Spells}
-use Rattle.problem_text.specs.Parts.{index_lines, AreSpelledIndices, problem_of_parts}
-use Rattle.problem_text.specs.declared.parts.Indices.{Indices}
-use Rattle.problem_text.specs.declared.parts.Parts.{Parts}
-use Rattle.problem_text.proofs.LineLemmas.{text_of-append, index_lines-text, index_lines-once, lines_once, position_avoids, position_once, item_avoids, item_once}
+use Rattle.hold_limits.specs.declared.parts.Loose.{Loose}
+use Rattle.problem_text.specs.TaskText.{task_lines, position_line, position_word, exclude_line, combined_line, cumulative_line, item_line, loose_line, base_line, window_line, ideal_line, IsSpelledPosition, IsSpelledExclude, IsSpelledCombined, IsSpelledCumulative, IsSpelledItem, IsSpelledLoose, IsSpelled}
+use Rattle.problem_text.specs.Cuts.{Avoids}
+use Rattle.problem_text.proofs.WordLemmas.{name_avoids}
+use Rattle.problem_text.proofs.LineLemmas.{item_once, base_once, window_once, ideal_once}
+use Rattle.problem_text.proofs.LimitLemmas.{AreClear, exclude_once, combined_once, cumulative_once, loose_once}
+use Rattle.problem_text.proofs.PositionLemmas.{position_once}
 
-abbrev pub indices_of : Problem → Indices
-indices_of t = record {
-  base = record { 0 = t.base };
-  window = record { low = record { 0 = t.low }; high = record { 0 = t.high } };
-  ideal = record { low = record { 0 = t.ideal_low }; high = record { 0 = t.ideal_high } };
-}
+-- ---- the lines of a task, section by section
 
-abbrev pub end_text : List ℕ
-end_text = codes "END" ++ 10 ∷ []
+abbrev pub front : Problem → List (List ℕ)
+front t =
+    (codes "TASK 1" ∷ [])
+    ++ map position_line t.hold.positions
+    ++ map (exclude_line t.hold.positions) t.hold.excludes
+    ++ map (combined_line t.hold.positions) t.hold.combined
+    ++ map (cumulative_line t.hold.positions) t.hold.cumulative
+    ++ map item_line t.items
+    ++ map (loose_line t.hold.positions) t.loose
 
-abbrev pub behind_items : Problem → List ℕ
-behind_items t = text_of (index_lines (indices_of t)) ++ end_text
+abbrev pub last : Problem → List (List ℕ)
+last t = base_line t.base ∷ window_line t.low t.high ∷ ideal_line t.ideal_low t.ideal_high ∷ codes "END" ∷ []
 
-abbrev pub behind_positions : Problem → List ℕ
-behind_positions t = text_of (map item_line t.items) ++ behind_items t
+-- the sections behind the positions
+pub record Rest : Type 0 where
+  pub excludes : List (ℕ × ℕ)
+  pub combined : List Combined
+  pub cumulative : List Cumulative
+  pub items : List Item
+  pub loose : List Loose
 
-abbrev pub behind_header : Problem → List ℕ
-behind_header t = text_of (map position_line t.hold.positions) ++ behind_positions t
+abbrev pub rest_of : Problem → Rest
+rest_of t = record { excludes = t.hold.excludes; combined = t.hold.combined; cumulative = t.hold.cumulative; items = t.items; loose = t.loose }
 
-pub task_text : (t : Problem) → text_of (task_lines t) ≡ codes "TASK 1" ++ 10 ∷ behind_header t
-task_text t =
-    let positions = map position_line t.hold.positions in
-    let items = map item_line t.items in
-    let last : List (List ℕ) = base_line t.base ∷ window_line t.low t.high ∷ ideal_line t.ideal_low t.ideal_high ∷ codes "END" ∷ [] in
-    let whole = text_of-append (positions ++ items) last in
-    let front = ap (λ x. x ++ text_of last) (text_of-append positions items) in
-    let regrouped = append_assoc (text_of positions) (text_of items) (text_of last) in
-    let end = ap (λ x. text_of positions ++ (text_of items ++ x)) (sym (index_lines-text (indices_of t) end_text)) in
-    ap (λ x. codes "TASK 1" ++ 10 ∷ x) (whole ∙ front ∙ regrouped ∙ end)
+abbrev pub behind_items : List Position → Rest → List (List ℕ) → List (List ℕ)
+behind_items ps r lines = map (loose_line ps) r.loose ++ lines
 
--- an item line and the line of the base are no position lines
-pub no_position_ahead : (items : List Item) (at : Indices) (rest : List ℕ) → BeginsWithNone position_line IsSpelledPosition (text_of (map item_line items) ++ (text_of (index_lines at) ++ rest))
-no_position_ahead [] at rest = λ q more s e. absurd (omega (arith, ap (λ t. get_or t 0 0) e))
-no_position_ahead (x ∷ items) at rest = λ q more s e. absurd (omega (arith, ap (λ t. get_or t 0 0) e))
+abbrev pub behind_cumulative : List Position → Rest → List (List ℕ) → List (List ℕ)
+behind_cumulative ps r lines = map item_line r.items ++ behind_items ps r lines
 
--- the line of the base is no item line
-pub no_item_ahead : (at : Indices) (rest : List ℕ) → BeginsWithNone item_line IsSpelledItem (text_of (index_lines at) ++ rest)
-no_item_ahead at rest = λ x more s e. absurd (omega (arith, ap (λ t. get_or t 0 0) e))
+abbrev pub behind_combined : List Position → Rest → List (List ℕ) → List (List ℕ)
+behind_combined ps r lines = map (cumulative_line ps) r.cumulative ++ behind_cumulative ps r lines
 
-pub spelled_indices : (t : Problem) → IsSpelled t → AreSpelledIndices (indices_of t)
-spelled_indices t s = record { base = s.base; low = s.low; high = s.high; ideal_low = s.ideal_low; ideal_high = s.ideal_high }
+abbrev pub behind_excludes : List Position → Rest → List (List ℕ) → List (List ℕ)
+behind_excludes ps r lines = map (combined_line ps) r.combined ++ behind_combined ps r lines
 
--- the parts of the problem that its lines say are all of it, where it is of the first form
-pub same_problem : (text : List ℕ) (p : Parts) (t : Problem) → Spells text t → p.positions.items ≡ t.hold.positions → p.items.items ≡ t.items → p.indices ≡ indices_of t → problem_of_parts p ≡ t
-same_problem text p t s positions items indices = λ i. record {
-  hold = record { positions = positions i; excludes = sym s.first.excludes i; combined = sym s.first.combined i; cumulative = sym s.first.cumulative i };
-  items = items i;
-  loose = sym s.first.loose i;
-  base = (indices i).base.0;
-  low = (indices i).window.low.0;
-  high = (indices i).window.high.0;
-  ideal_low = (indices i).ideal.low.0;
-  ideal_high = (indices i).ideal.high.0;
-}
+abbrev pub behind_positions : List Position → Rest → List (List ℕ) → List (List ℕ)
+behind_positions ps r lines = map (exclude_line ps) r.excludes ++ behind_excludes ps r lines
 
--- the sections that were read make the whole text
-pub spells_parts : (text : List ℕ) (p : Parts) → text ≡ codes "TASK 1" ++ 10 ∷ behind_header (problem_of_parts p) → All IsSpelledPosition p.positions.items → All IsSpelledItem p.items.items → AreSpelledIndices p.indices → Spells text (problem_of_parts p)
-spells_parts text p e positions items indices = record {
-  is = e ∙ sym (task_text (problem_of_parts p));
-  spelled = record {
-    positions = positions;
-    items = items;
-    base = indices.base;
-    low = indices.low;
-    high = indices.high;
-    ideal_low = indices.ideal_low;
-    ideal_high = indices.ideal_high;
-  };
-  first = record { excludes = refl; combined = refl; cumulative = refl; loose = refl };
-}
+pub front-nested : (t : Problem) (lines : List (List ℕ)) → front t ++ lines ≡ codes "TASK 1" ∷ (map position_line t.hold.positions ++ behind_positions t.hold.positions (rest_of t) lines)
+front-nested t lines = simp append_assoc
 
-pub well_spelled : (text : List ℕ) (p : Parts) → Spells text (problem_of_parts p) → IsWellSpelled (problem_of_parts p).hold
-well_spelled text p s = record {
-  compartments = λ k d l. (s.spelled.positions k d l).compartment;
-  kinds = λ k d l. (s.spelled.positions k d l).kinds;
-  combined = All-nil _;
-  cumulative = All-nil _;
-}
+-- ---- a section ends where a line is none of its kind
 
--- a text spells one task at most
-pub spelled_once : (text : List ℕ) (a b : Problem) → Spells text a → Spells text b → a ≡ b
-spelled_once text a b s t =
-    let whole = append_cancel_left (codes "TASK 1" ++ 10 ∷ []) (behind_header a) (behind_header b) (sym (task_text a) ∙ sym s.is ∙ t.is ∙ task_text b) in
-    let positions = lines_once position_line IsSpelledPosition position_avoids position_once a.hold.positions b.hold.positions (behind_positions a) (behind_positions b) s.spelled.positions t.spelled.positions (no_position_ahead a.items (indices_of a) end_text) (no_position_ahead b.items (indices_of b) end_text) whole in
-    let items = lines_once item_line IsSpelledItem item_avoids item_once a.items b.items (behind_items a) (behind_items b) s.spelled.items t.spelled.items (no_item_ahead (indices_of a) end_text) (no_item_ahead (indices_of b) end_text) positions.1 in
-    let indices = index_lines-once (indices_of a) (indices_of b) end_text end_text items.1 in
-    let excludes = s.first.excludes ∙ sym t.first.excludes in
-    let combined = s.first.combined ∙ sym t.first.combined in
-    let cumulative = s.first.cumulative ∙ sym t.first.cumulative in
-    let loose = s.first.loose ∙ sym t.first.loose in
-    λ i. record {
-      hold = record { positions = positions.0 i; excludes = excludes i; combined = combined i; cumulative = cumulative i };
-      items = items.0 i;
-      loose = loose i;
-      base = (indices i).base.0;
-      low = (indices i).window.low.0;
-      high = (indices i).window.high.0;
-      ideal_low = (indices i).ideal.low.0;
-      ideal_high = (indices i).ideal.high.0;
+abbrev pub Stops : {X : Type 0} → (X → List ℕ) → (X → Type 0) → List (List ℕ) → Type 0
+Stops {X} line IsRight lines = (x : X) (more : List (List ℕ)) → IsRight x → lines ≡ line x ∷ more → ⊥
+
+section_once : {X : Type 0} (line : X → List ℕ) (IsRight : X → Type 0) → ((x y : X) → IsRight x → IsRight y → line x ≡ line y → x ≡ y) → (xs ys : List X) (lines other : List (List ℕ)) → All IsRight xs → All IsRight ys → Stops line IsRight lines → Stops line IsRight other → map line xs ++ lines ≡ map line ys ++ other → (xs ≡ ys) × (lines ≡ other)
+section_once line P once [] [] lines other p q stop stop' e = (refl, e)
+section_once line P once [] (y ∷ ys) lines other p q stop stop' e = absurd (stop y (map line ys ++ other) (All-head P y ys q) e)
+section_once line P once (x ∷ xs) [] lines other p q stop stop' e = absurd (stop' x (map line xs ++ lines) (All-head P x xs p) (sym e))
+section_once line P once (x ∷ xs) (y ∷ ys) lines other p q stop stop' e =
+    let first : line x ≡ line y = cc in
+    let tails : map line xs ++ lines ≡ map line ys ++ other = cc in
+    let same = once x y (All-head P x xs p) (All-head P y ys q) first in
+    let again = section_once line P once xs ys lines other (All-tail P x xs p) (All-tail P y ys q) stop stop' tails in
+    (λ i. same i ∷ again.0 i, again.1)
+
+-- no section's kind of line comes next behind that section
+pub record StopsRest (ps : List Position) (r : Rest) (lines : List (List ℕ)) : Type 0 where
+  pub excludes : Stops (exclude_line ps) (IsSpelledExclude ps) (behind_excludes ps r lines)
+  pub combined : Stops (combined_line ps) (IsSpelledCombined ps) (behind_combined ps r lines)
+  pub cumulative : Stops (cumulative_line ps) (IsSpelledCumulative ps) (behind_cumulative ps r lines)
+  pub items : Stops item_line IsSpelledItem (behind_items ps r lines)
+  pub loose : Stops (loose_line ps) (IsSpelledLoose ps) lines
+
+pub record StopsAll (ps : List Position) (r : Rest) (lines : List (List ℕ)) : Type 0 where
+  pub positions : Stops position_line IsSpelledPosition (behind_positions ps r lines)
+  pub rest : StopsRest ps r lines
+
+pub record IsRightRest (ps : List Position) (r : Rest) : Type 0 where
+  pub excludes : All (IsSpelledExclude ps) r.excludes
+  pub combined : All (IsSpelledCombined ps) r.combined
+  pub cumulative : All (IsSpelledCumulative ps) r.cumulative
+  pub items : All IsSpelledItem r.items
+  pub loose : All (IsSpelledLoose ps) r.loose
+
+pub right_rest : (t : Problem) → IsSpelled t → IsRightRest t.hold.positions (rest_of t)
+right_rest t s = record { excludes = s.excludes; combined = s.combined; cumulative = s.cumulative; items = s.items; loose = s.loose }
+
+rest_once : (ps : List Position) → AreClear 32 ps → (a b : Rest) (lines other : List (List ℕ)) → IsRightRest ps a → StopsRest ps a lines → IsRightRest ps b → StopsRest ps b other → behind_positions ps a lines ≡ behind_positions ps b other → (a ≡ b) × (lines ≡ other)
+rest_once ps clear a b lines other s stop t stop' e =
+    let excludes = section_once (exclude_line ps) (IsSpelledExclude ps) (exclude_once ps clear) a.excludes b.excludes (behind_excludes ps a lines) (behind_excludes ps b other) s.excludes t.excludes stop.excludes stop'.excludes e in
+    let combined = section_once (combined_line ps) (IsSpelledCombined ps) (combined_once ps clear) a.combined b.combined (behind_combined ps a lines) (behind_combined ps b other) s.combined t.combined stop.combined stop'.combined excludes.1 in
+    let cumulative = section_once (cumulative_line ps) (IsSpelledCumulative ps) (cumulative_once ps clear) a.cumulative b.cumulative (behind_cumulative ps a lines) (behind_cumulative ps b other) s.cumulative t.cumulative stop.cumulative stop'.cumulative combined.1 in
+    let items = section_once item_line IsSpelledItem item_once a.items b.items (behind_items ps a lines) (behind_items ps b other) s.items t.items stop.items stop'.items cumulative.1 in
+    let loose = section_once (loose_line ps) (IsSpelledLoose ps) (loose_once ps clear) a.loose b.loose lines other s.loose t.loose stop.loose stop'.loose items.1 in
+    (λ i. record { excludes = excludes.0 i; combined = combined.0 i; cumulative = cumulative.0 i; items = items.0 i; loose = loose.0 i }, loose.1)
+
+pub clear_names : (k : ℕ) (ps : List Position) → k < 45 → All IsSpelledPosition ps → AreClear k ps
+clear_names k ps low s = All-weaker IsSpelledPosition (λ (q : Position). Avoids k q.name) (λ q h. name_avoids k q.name low h.name) ps s
+
+-- the sections of two tasks, and what follows them, are the same where their lines are
+pub sections_once : (a b : Problem) (lines other : List (List ℕ)) → IsSpelled a → IsSpelled b → StopsAll a.hold.positions (rest_of a) lines → StopsAll b.hold.positions (rest_of b) other → front a ++ lines ≡ front b ++ other → (a.hold.positions ≡ b.hold.positions) × (rest_of a ≡ rest_of b) × (lines ≡ other)
+sections_once a b lines other s t stop stop' e =
+    let whole : map position_line a.hold.positions ++ behind_positions a.hold.positions (rest_of a) lines ≡ map position_line b.hold.positions ++ behind_positions b.hold.positions (rest_of b) other = append_cancel_left (codes "TASK 1" ∷ []) _ _ (sym (front-nested a lines) ∙ e ∙ front-nested b other) in
+    let positions = section_once position_line IsSpelledPosition position_once a.hold.positions b.hold.positions _ _ s.positions t.positions stop.positions stop'.positions whole in
+    let Same : List Position → Type 0 = λ ps. IsRightRest ps (rest_of b) → StopsRest ps (rest_of b) other → behind_positions a.hold.positions (rest_of a) lines ≡ behind_positions ps (rest_of b) other → (rest_of a ≡ rest_of b) × (lines ≡ other) in
+    let here : Same a.hold.positions = rest_once a.hold.positions (clear_names 32 a.hold.positions (lit< tt) s.positions) (rest_of a) (rest_of b) lines other (right_rest a s) stop.rest in
+    let rest = subst Same positions.0 here (right_rest b t) stop'.rest positions.1 in
+    (positions.0, rest.0, rest.1)
+
+-- ---- the kind of a line, by its first two bytes
+
+kind : List ℕ → ℕ
+kind [] = 8
+kind (a ∷ []) = 8
+kind (a ∷ b ∷ line) =
+    cond (eqb a 112) 1 (cond (eqb a 101) 2 (cond (eqb a 108) 6
+    (cond (eqb a 98) (cond (eqb b 117) 1 7) (cond (eqb a 99) (cond (eqb b 111) 3 4) (cond (eqb a 105) 5 8)))))
+
+kind_of_position : (q : Position) → kind (position_line q) ≡ 1
+unfolding kind
+kind_of_position q = of_word q.bulk _
+  where
+    of_word : (bulk : Bool) (rest : List ℕ) → kind (position_word bulk ++ 32 ∷ rest) ≡ 1
+    of_word true rest = refl
+    of_word false rest = refl
+
+-- the next line is of a later kind
+abbrev Later : ℕ → List (List ℕ) → Type 0
+Later k lines = (line : List ℕ) (more : List (List ℕ)) → lines ≡ line ∷ more → k < kind line
+
+later_section : {X : Type 0} (line : X → List ℕ) (j k : ℕ) → ((x : X) → kind (line x) ≡ j) → k < j → (xs : List X) (lines : List (List ℕ)) → Later k lines → Later k (map line xs ++ lines)
+later_section line j k of less [] lines h = h
+later_section line j k of less (x ∷ xs) lines h =
+    λ l more e. let same : line x ≡ l = cc in let is = ap kind same in omega (arith, of x, is)
+
+stops_later : {X : Type 0} (line : X → List ℕ) (IsRight : X → Type 0) (k : ℕ) → ((x : X) → kind (line x) ≡ k) → (lines : List (List ℕ)) → Later k lines → Stops line IsRight lines
+stops_later line P k of lines h = λ x more p e. let later = h (line x) more e in omega (arith, of x, later)
+
+later_last : (k : ℕ) (t : Problem) (more : List (List ℕ)) → k < 7 → Later k (last t ++ more)
+unfolding kind
+later_last k t more less = λ line rest e. let same : base_line t.base ≡ line = cc in let is : 7 ≡ kind line = ap kind same in omega (arith, is)
+
+-- the lines of the indices end all sections
+pub stops_last : (t : Problem) (more : List (List ℕ)) → StopsAll t.hold.positions (rest_of t) (last t ++ more)
+unfolding kind
+stops_last t more =
+    let ps = t.hold.positions in
+    let end = last t ++ more in
+    let loose : (k : ℕ) → k < 6 → Later k (behind_items ps (rest_of t) end) = λ k less. later_section (loose_line ps) 6 k (λ x. refl) less t.loose end (later_last k t more (omega arith)) in
+    let items : (k : ℕ) → k < 5 → Later k (behind_cumulative ps (rest_of t) end) = λ k less. later_section item_line 5 k (λ x. refl) less t.items _ (loose k (omega arith)) in
+    let cumulative : (k : ℕ) → k < 4 → Later k (behind_combined ps (rest_of t) end) = λ k less. later_section (cumulative_line ps) 4 k (λ x. refl) less t.hold.cumulative _ (items k (omega arith)) in
+    let combined : (k : ℕ) → k < 3 → Later k (behind_excludes ps (rest_of t) end) = λ k less. later_section (combined_line ps) 3 k (λ x. refl) less t.hold.combined _ (cumulative k (omega arith)) in
+    let excludes : (k : ℕ) → k < 2 → Later k (behind_positions ps (rest_of t) end) = λ k less. later_section (exclude_line ps) 2 k (λ x. refl) less t.hold.excludes _ (combined k (omega arith)) in
+    record {
+      positions = stops_later position_line IsSpelledPosition 1 kind_of_position _ (excludes 1 (lit< tt));
+      rest = record {
+        excludes = stops_later (exclude_line ps) (IsSpelledExclude ps) 2 (λ x. refl) _ (combined 2 (lit< tt));
+        combined = stops_later (combined_line ps) (IsSpelledCombined ps) 3 (λ x. refl) _ (cumulative 3 (lit< tt));
+        cumulative = stops_later (cumulative_line ps) (IsSpelledCumulative ps) 4 (λ x. refl) _ (items 4 (lit< tt));
+        items = stops_later item_line IsSpelledItem 5 (λ x. refl) _ (loose 5 (lit< tt));
+        loose = stops_later (loose_line ps) (IsSpelledLoose ps) 6 (λ x. refl) _ (later_last 6 t more (lit< tt));
+      };
     }
+
+same_task : (a b : Problem) → a.hold.positions ≡ b.hold.positions → rest_of a ≡ rest_of b → last a ≡ last b → a ≡ b
+same_task a b positions rest end =
+    let base = base_once a.base b.base (cc) in
+    let window = window_once a.low a.high b.low b.high (cc) in
+    let ideal = ideal_once a.ideal_low a.ideal_high b.ideal_low b.ideal_high (cc) in
+    λ i. record {
+      hold = record { positions = positions i; excludes = (rest i).excludes; combined = (rest i).combined; cumulative = (rest i).cumulative };
+      items = (rest i).items;
+      loose = (rest i).loose;
+      base = base i;
+      low = window.0 i;
+      high = window.1 i;
+      ideal_low = ideal.0 i;
+      ideal_high = ideal.1 i;
+    }
+
+-- the lines of one task, and others behind them, are those of another task only where it is the same and there are no others
+pub task_once : (a b : Problem) (more : List (List ℕ)) → IsSpelled a → IsSpelled b → task_lines a ++ more ≡ task_lines b → (a ≡ b) × (more ≡ [])
+task_once a b more s t e =
+    let same = sections_once a b (last a ++ more) (last b ++ []) s t (stops_last a more) (stops_last b []) (sym (append_assoc (front a) (last a) more) ∙ e) in
+    let end : last a ++ more ≡ last b = same.2 in
+    let none : more ≡ [] = cc in
+    (same_task a b same.0 same.1 (cc), none)

@@ -1,5 +1,8 @@
 pub mod Cuts
 pub mod TaskText
-pub mod FitText
+pub mod Refusals
+pub mod Places
+pub mod WordRuns
+pub mod Sections
 pub mod Reading
 pub mod Parts

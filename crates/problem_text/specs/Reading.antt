@@ -1,35 +1,31 @@
--- what a reader answers to a text that spells a task
-use Rattle.std.specs.Prelude.{◌≡◌, Result, Ok, Err, Some, None}
+-- what the steps of the reader answer
+use Rattle.std.specs.Prelude.{◌≡◌, ℕ, ℤ, List, ◌∷◌, ◌++◌, Some, None}
+use Rattle.mass_units.specs.Spelling.{index_text, IsIndex}
 use Rattle.hold_limits.specs.Problem.{Problem}
 use Rattle.hold_limits.specs.Faults.{hold_fault, task_fault}
+use Rattle.problem_text.specs.Cuts.{Avoids}
 use Rattle.problem_text.specs.declared.fault.TextFault.{TextFault}
-use Rattle.problem_text.specs.declared.fault.TextFault.TheVariants.{Line, NoEnd, Later, Hold, Task, NoMemory}
+use Rattle.problem_text.specs.declared.fault.TextFault.TheVariants.{Line, NoEnd, Hold, Task, NoMemory}
 
--- the answer to a text that spells the task: the task, or the first fault of its hold, or else of itself
-abbrev pub IsAnswer : Problem → Result Problem TextFault → Type 0
-IsAnswer t (Ok task) = task ≡ t
-IsAnswer t (Err (Line n)) = ⊥
-IsAnswer t (Err NoEnd) = ⊥
-IsAnswer t (Err (Later n)) = ⊥
-IsAnswer t (Err (Hold fault)) = hold_fault t.hold ≡ Some fault
-IsAnswer t (Err (Task fault)) = (hold_fault t.hold ≡ None) × (task_fault t ≡ Some fault)
-IsAnswer t (Err NoMemory) = Unit {0}
+-- the next line is not as it must be, or there is none
+pub data IsStopped (rest : List ℕ) (number : ℕ) (IsRight : List ℕ → Type 0) : TextFault → Type 0 where
+  at_line : (line after : List ℕ) → rest ≡ line ++ 10 ∷ after → Avoids 10 line → (IsRight line → ⊥)
+      → IsStopped rest number IsRight (Line number)
+  at_end : Avoids 10 rest → IsStopped rest number IsRight NoEnd
 
--- the answer says that the text spells a task
-abbrev pub TellsTask : Result Problem TextFault → Type 0
-TellsTask (Ok task) = Unit {0}
-TellsTask (Err (Line n)) = ⊥
-TellsTask (Err NoEnd) = ⊥
-TellsTask (Err (Later n)) = ⊥
-TellsTask (Err (Hold fault)) = Unit {0}
-TellsTask (Err (Task fault)) = Unit {0}
-TellsTask (Err NoMemory) = ⊥
+-- the line has one index behind the keyword and its space
+abbrev pub IsIndexLine : List ℕ → List ℕ → Type 0
+IsIndexLine keyword line = (index : ℤ) × IsIndex index × (line ≡ keyword ++ index_text index)
 
--- the fault says nothing of a task: it is of the lines alone, or want of memory
-abbrev pub IsTextFault : TextFault → Type 0
-IsTextFault (Line n) = Unit {0}
-IsTextFault NoEnd = Unit {0}
-IsTextFault (Later n) = Unit {0}
-IsTextFault (Hold fault) = ⊥
-IsTextFault (Task fault) = ⊥
-IsTextFault NoMemory = Unit {0}
+-- the line has two indices behind the keyword and its space
+abbrev pub IsBandLine : List ℕ → List ℕ → Type 0
+IsBandLine keyword line =
+    (low : ℤ) × (high : ℤ) × IsIndex low × IsIndex high × (line ≡ keyword ++ (index_text low ++ 32 ∷ index_text high))
+
+-- the fault is the first of the hold, or else of the task
+abbrev pub IsFaultOf : Problem → TextFault → Type 0
+IsFaultOf t (Line n) = ⊥
+IsFaultOf t NoEnd = ⊥
+IsFaultOf t (Hold fault) = hold_fault t.hold ≡ Some fault
+IsFaultOf t (Task fault) = (hold_fault t.hold ≡ None) × (task_fault t ≡ Some fault)
+IsFaultOf t NoMemory = ⊥

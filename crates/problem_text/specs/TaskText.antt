@@ -1,12 +1,18 @@
 -- the text of a task, line by line
-use Rattle.std.specs.Prelude.{◌≡◌, ℕ, ◌≤◌, ℤ, false, List, [], ◌∷◌, ◌++◌, length, map, All, codes}
+use Rattle.std.specs.Prelude.{◌≡◌, ◌≢◌, ℕ, ◌<◌, ◌≤◌, ℤ, Bool, true, false, List, [], ◌∷◌, ◌++◌, length, map, take, slice_get, All, codes}
 use Rattle.std.specs.List.{join_with_byte}
+use Rattle.std.specs.Option.{option_map_or}
 use Rattle.mass_units.specs.Spelling.{number_text, signed_text, index_text, IsNumber, IsSignedNumber, IsIndex}
 use Rattle.hold_limits.specs.declared.lists.Fit.{Fit}
 use Rattle.hold_limits.specs.declared.parts.Position.{Position}
+use Rattle.hold_limits.specs.declared.parts.Combined.{Combined}
+use Rattle.hold_limits.specs.declared.parts.Cumulative.{Cumulative}
 use Rattle.hold_limits.specs.declared.parts.Item.{Item}
+use Rattle.hold_limits.specs.declared.parts.Loose.{Loose}
 use Rattle.hold_limits.specs.Spellings.{IsName, IsKind, IsUldId}
 use Rattle.hold_limits.specs.Problem.{Problem}
+
+-- Lines -----------------------------------------------------------------------------------------
 
 -- words on a line are parted by one space
 abbrev pub line_of : List (List ℕ) → List ℕ
@@ -17,13 +23,48 @@ abbrev pub fit_words : List Fit → List (List ℕ)
 fit_words [] = []
 fit_words (fit ∷ fits) = fit.kind ∷ number_text fit.most.0 ∷ fit_words fits
 
--- `position NAME COMPARTMENT INFLUENCE KIND MOST KIND MOST ..`
+-- the first word of a position's line
+abbrev pub position_word : Bool → List ℕ
+position_word true = codes "bulk"
+position_word false = codes "position"
+
+-- `position NAME COMPARTMENT INFLUENCE KIND MOST KIND MOST ..`, or `bulk NAME COMPARTMENT INFLUENCE`
 abbrev pub position_line : Position → List ℕ
-position_line q = line_of (codes "position" ∷ q.name ∷ number_text q.compartment ∷ signed_text q.influence ∷ fit_words q.fits)
+position_line q =
+    line_of (position_word q.bulk ∷ q.name ∷ number_text q.compartment ∷ signed_text q.influence ∷ fit_words q.fits)
+
+-- the name of the position with this number
+abbrev pub name_at : List Position → ℕ → List ℕ
+name_at positions q = option_map_or (λ (place : Position). place.name) (slice_get positions q) []
+
+-- `exclude NAME NAME`
+abbrev pub exclude_line : List Position → ℕ × ℕ → List ℕ
+exclude_line positions pair =
+    line_of (codes "exclude" ∷ name_at positions pair.0 ∷ name_at positions pair.1 ∷ [])
+
+-- `combined MOST NAME NAME ..`
+abbrev pub combined_line : List Position → Combined → List ℕ
+combined_line positions limit =
+    line_of (codes "combined" ∷ number_text limit.most.0 ∷ map (name_at positions) limit.places)
+
+-- the word that says to which side of its position a cumulative limit counts
+abbrev pub side_word : Bool → List ℕ
+side_word true = codes "forward"
+side_word false = codes "aft"
+
+-- `cumulative forward NAME MOST` or `cumulative aft NAME MOST`
+abbrev pub cumulative_line : List Position → Cumulative → List ℕ
+cumulative_line positions limit =
+    line_of (codes "cumulative" ∷ side_word limit.forward ∷ name_at positions limit.place ∷ number_text limit.most.0 ∷ [])
 
 -- `item ID MASS`
 abbrev pub item_line : Item → List ℕ
 item_line item = line_of (codes "item" ∷ item.id ∷ number_text item.mass.0 ∷ [])
+
+-- `loose NAME MASS`
+abbrev pub loose_line : List Position → Loose → List ℕ
+loose_line positions load =
+    line_of (codes "loose" ∷ name_at positions load.position ∷ number_text load.mass.0 ∷ [])
 
 -- `base INDEX`
 abbrev pub base_line : ℤ → List ℕ
@@ -37,12 +78,18 @@ window_line low high = line_of (codes "window" ∷ index_text low ∷ index_text
 abbrev pub ideal_line : ℤ → ℤ → List ℕ
 ideal_line low high = line_of (codes "ideal" ∷ index_text low ∷ index_text high ∷ [])
 
--- the lines of a task of the first form, in their order
+-- The text --------------------------------------------------------------------------------------
+
+-- the lines of a task, in their order
 abbrev pub task_lines : Problem → List (List ℕ)
 task_lines t =
     (codes "TASK 1" ∷ [])
     ++ map position_line t.hold.positions
+    ++ map (exclude_line t.hold.positions) t.hold.excludes
+    ++ map (combined_line t.hold.positions) t.hold.combined
+    ++ map (cumulative_line t.hold.positions) t.hold.cumulative
     ++ map item_line t.items
+    ++ map (loose_line t.hold.positions) t.loose
     ++ (base_line t.base ∷ window_line t.low t.high ∷ ideal_line t.ideal_low t.ideal_high ∷ codes "END" ∷ [])
 
 -- lines as a text: an LF after each
@@ -50,39 +97,67 @@ abbrev pub text_of : List (List ℕ) → List ℕ
 text_of [] = []
 text_of (line ∷ lines) = line ++ 10 ∷ text_of lines
 
--- a position with at least one kind, each part in its spelling
+-- Spellings of the parts ------------------------------------------------------------------------
+
+-- a bulk position without kinds, or another with at least one
+abbrev pub HasItsKinds : Bool → List Fit → Type 0
+HasItsKinds true fits = fits ≡ []
+HasItsKinds false fits = 1 ≤ length fits
+
+-- each part of the position in its spelling
 pub record IsSpelledPosition (q : Position) : Type 0 where
   pub name : IsName q.name
   pub compartment : q.compartment ≤ 9
   pub influence : IsSignedNumber q.influence
-  pub some : 1 ≤ length q.fits
+  pub some : HasItsKinds q.bulk q.fits
   pub kinds : All (λ (fit : Fit). IsKind fit.kind) q.fits
   pub masses : All (λ (fit : Fit). IsNumber fit.most.0) q.fits
-  pub loaded : q.bulk ≡ false
 
+-- the number is that of the first position with its name, so the name says which position is meant
+pub record IsNamed (positions : List Position) (q : ℕ) : Type 0 where
+  pub known : q < length positions
+  pub first : All (λ (earlier : Position). earlier.name ≢ name_at positions q) (take q positions)
+
+-- both positions of the pair are named
+abbrev pub IsSpelledExclude : List Position → ℕ × ℕ → Type 0
+IsSpelledExclude positions pair = IsNamed positions pair.0 × IsNamed positions pair.1
+
+-- at least one position, each named, and the greatest mass in its spelling
+pub record IsSpelledCombined (positions : List Position) (limit : Combined) : Type 0 where
+  pub some : 1 ≤ length limit.places
+  pub places : All (IsNamed positions) limit.places
+  pub most : IsNumber limit.most.0
+
+-- the position named, and the greatest mass in its spelling
+pub record IsSpelledCumulative (positions : List Position) (limit : Cumulative) : Type 0 where
+  pub place : IsNamed positions limit.place
+  pub most : IsNumber limit.most.0
+
+-- the identity and the mass in their spelling
 pub record IsSpelledItem (item : Item) : Type 0 where
   pub id : IsUldId item.id
   pub mass : IsNumber item.mass.0
 
+-- the position named, and the mass in its spelling
+pub record IsSpelledLoose (positions : List Position) (load : Loose) : Type 0 where
+  pub position : IsNamed positions load.position
+  pub mass : IsNumber load.mass.0
+
 -- each part of the task is in its spelling
 pub record IsSpelled (t : Problem) : Type 0 where
   pub positions : All IsSpelledPosition t.hold.positions
+  pub excludes : All (IsSpelledExclude t.hold.positions) t.hold.excludes
+  pub combined : All (IsSpelledCombined t.hold.positions) t.hold.combined
+  pub cumulative : All (IsSpelledCumulative t.hold.positions) t.hold.cumulative
   pub items : All IsSpelledItem t.items
+  pub loose : All (IsSpelledLoose t.hold.positions) t.loose
   pub base : IsIndex t.base
   pub low : IsIndex t.low
   pub high : IsIndex t.high
   pub ideal_low : IsIndex t.ideal_low
   pub ideal_high : IsIndex t.ideal_high
 
--- a task of the first form: no excluding pairs, no combined and no cumulative limits, no loose loads
-pub record IsFirstForm (t : Problem) : Type 0 where
-  pub excludes : t.hold.excludes ≡ []
-  pub combined : t.hold.combined ≡ []
-  pub cumulative : t.hold.cumulative ≡ []
-  pub loose : t.loose ≡ []
-
 -- the bytes spell the task: they are its text, and each part of it is in its spelling
 pub record Spells (text : List ℕ) (t : Problem) : Type 0 where
   pub is : text ≡ text_of (task_lines t)
   pub spelled : IsSpelled t
-  pub first : IsFirstForm t

@@ -12,8 +12,6 @@ pub enum TextFault {
     Line(usize),
     /// The text stops before the end of its line `END`.
     NoEnd,
-    /// A line of a kind that is not read yet.
-    Later(usize),
     /// The lines spell a hold with this fault.
     Hold(HoldFault),
     /// The lines spell a task with this fault.

@@ -1,8 +1,9 @@
-//! Readers of the lines with a fixed number of words.
+//! Readers of the lines of containers and of indices.
 
-ghost use Rattle.std.specs.Prelude.{◌≡◌, ℤ, ◌∷◌, ◌++◌, IfSome};
+ghost use Rattle.std.specs.Prelude.{◌≡◌, ◌≢◌, ℤ, ◌∷◌, ◌++◌, IfSome, IfNone};
 ghost use Rattle.mass_units.specs.Spelling.{index_text, IsIndex};
 ghost use Rattle.problem_text.specs.TaskText.{item_line, IsSpelledItem};
+ghost use Rattle.problem_text.specs.Reading.{IsIndexLine, IsBandLine};
 ghost use Rattle.hold_limits.specs.declared.parts.Item.{Item};
 
 use crate::cuts::{behind, split_once};
@@ -13,7 +14,7 @@ use mass_units::{Kg, Ticks, read_number, read_ticks5};
 /// The container of a line `item ID MASS`.
 pub fn read_item(line: &[u8]) -> Option<Item>
     ensures found { IfSome result (λ item. (line.now ≡ item_line item) × IsSpelledItem item) }
-    ensures read_back { (item : Item) → IsSpelledItem item → line.now ≡ item_line item → result ≡ Some item }
+    ensures none { IfNone result ((item : Item) → IsSpelledItem item → line.now ≢ item_line item) }
 {
     let (id, mass) = split_once(b' ', behind(b"item ", line)?)?;
     let id = UldId::read(id)?;
@@ -23,9 +24,9 @@ pub fn read_item(line: &[u8]) -> Option<Item>
 
 /// The index of a line with one index behind the keyword and its space.
 pub fn read_index(keyword: &[u8], line: &[u8]) -> Option<Ticks>
-    ensures found { IfSome result (λ index. (line.now ≡ keyword.now ++ index_text index.0) × IsIndex index.0) }
-    ensures read_back { (index : ℤ) → IsIndex index → line.now ≡ keyword.now ++ index_text index
-        → result ≡ Some (record { 0 = index }) }
+    ensures found { IfSome result (λ index. (line.now ≡ keyword.now ++ index_text index.0)
+        × IsIndex index.0) }
+    ensures none { IfNone result (IsIndexLine keyword.now line.now → ⊥) }
 {
     read_ticks5(behind(keyword, line)?).ok()
 }
@@ -34,9 +35,7 @@ pub fn read_index(keyword: &[u8], line: &[u8]) -> Option<Ticks>
 pub fn read_band(keyword: &[u8], line: &[u8]) -> Option<Band>
     ensures found { IfSome result (λ band. (line.now ≡ keyword.now ++ (index_text band.low.0 ++ 32 ∷ index_text band.high.0))
         × IsIndex band.low.0 × IsIndex band.high.0) }
-    ensures read_back { (low high : ℤ) → IsIndex low → IsIndex high
-        → line.now ≡ keyword.now ++ (index_text low ++ 32 ∷ index_text high)
-        → result ≡ Some (record { low = record { 0 = low }; high = record { 0 = high } }) }
+    ensures none { IfNone result (IsBandLine keyword.now line.now → ⊥) }
 {
     let (low, high) = split_once(b' ', behind(keyword, line)?)?;
     let low = read_ticks5(low).ok()?;

@@ -1,4 +1,4 @@
-use hold_limits::{Item, Position};
+use hold_limits::{Combined, Cumulative, Item, Loose, Position};
 use mass_units::Ticks;
 
 /// The two ends of a range of indices.
@@ -18,10 +18,20 @@ pub struct Indices {
     pub ideal: Band,
 }
 
+/// What the lines between those of the positions and those of the indices say.
+#[derive(Debug, Drop)]
+pub struct Sections {
+    pub excludes: Vec<(u8, u8)>,
+    pub combined: Vec<Combined>,
+    pub cumulative: Vec<Cumulative>,
+    pub items: Vec<Item>,
+    pub loose: Vec<Loose>,
+}
+
 /// What the lines of a task say.
 #[derive(Debug, Drop)]
 pub struct Parts {
     pub positions: Vec<Position>,
-    pub items: Vec<Item>,
+    pub sections: Sections,
     pub indices: Indices,
 }

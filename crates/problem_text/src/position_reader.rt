@@ -1,13 +1,13 @@
 //! The reader of a position line.
 
-ghost use Rattle.std.specs.Prelude.{◌≡◌, ℕ, ℤ, ◌≤◌, false, List, ◌∷◌, ◌++◌, length, All, codes, IfSome, IfOk, IsSomeAnd};
+ghost use Rattle.std.specs.Prelude.{◌≡◌, ◌≢◌, ℕ, ℤ, ◌≤◌, Bool, List, ◌∷◌, ◌++◌, length, All, IfSome, IfNone, IfOk, IsSomeAnd};
 ghost use Rattle.mass_units.specs.Spelling.{number_text, signed_text, IsNumber, IsSignedNumber};
 ghost use Rattle.hold_limits.specs.declared.lists.Fit.{Fit};
 ghost use Rattle.hold_limits.specs.declared.parts.Position.{Position};
 ghost use Rattle.hold_limits.specs.Spellings.{IsKind, IsName};
 ghost use Rattle.problem_text.specs.Cuts.{Avoids, IsCutAt};
-ghost use Rattle.problem_text.specs.FitText.{fit_text, fits_text, IsSpelledFit};
-ghost use Rattle.problem_text.specs.TaskText.{position_line, IsSpelledPosition};
+ghost use Rattle.problem_text.specs.WordRuns.{run_text, fit_text, IsSpelledFit};
+ghost use Rattle.problem_text.specs.TaskText.{position_word, position_line, HasItsKinds, IsSpelledPosition};
 
 use crate::cuts::{behind, cut, split_once};
 use desk_base::NoMemory;
@@ -15,9 +15,10 @@ use hold_limits::{Fit, Fits, Name, Position, is_kind};
 use mass_units::{Kg, read_number, read_signed};
 use std::alloc::Global;
 
-/// The words of a position line behind `position`. The kinds and masses at its end stay together.
+/// The words of a position line. The kinds and masses at its end stay together.
 #[derive(Clone, Copy)]
 struct Words<'a> {
+    bulk: bool,
     name: &'a [u8],
     compartment: &'a [u8],
     influence: &'a [u8],
@@ -25,10 +26,13 @@ struct Words<'a> {
     fits: &'a [u8],
 }
 
-/// The position of a line `position NAME COMPARTMENT INFLUENCE KIND MOST KIND MOST ..`.
+/// The position of a line `position NAME COMPARTMENT INFLUENCE KIND MOST KIND MOST ..`, or
+/// `bulk NAME COMPARTMENT INFLUENCE`.
 pub fn read_position(alloc: Global, line: &[u8]) -> Result<Option<Position>, NoMemory>
-    ensures found { IfOk result (λ r. IfSome r (λ q. (line.now ≡ position_line q) × IsSpelledPosition q)) }
-    ensures read_back { (q : Position) → IsSpelledPosition q → line.now ≡ position_line q → IfOk result (λ r. r ≡ Some q) }
+    ensures found { IfOk result (λ r. IfSome r (λ q. (line.now ≡ position_line q)
+        × IsSpelledPosition q)) }
+    ensures none { IfOk result (λ r. IfNone r ((q : Position) → IsSpelledPosition q
+        → line.now ≢ position_line q)) }
 {
     let Some(words) = position_words(line) else {
         return Ok(None);
@@ -41,16 +45,22 @@ pub fn read_position(alloc: Global, line: &[u8]) -> Result<Option<Position>, NoM
 
 /// Parts the words of a position line.
 fn position_words(line: &[u8]) -> Option<Words<'_>>
-    ensures found { IfSome result (λ w. line.now ≡ codes "position " ++ (w.name.now ++ 32 ∷ (w.compartment.now ++ 32 ∷ (w.influence.now ++ w.fits.now)))) }
+    ensures found { IfSome result (λ w. line.now
+        ≡ position_word w.bulk ++ 32 ∷ (w.name.now ++ 32 ∷ (w.compartment.now ++ 32 ∷ (w.influence.now ++ w.fits.now)))) }
     ensures behind_space { IfSome result (λ w. IsCutAt 32 w.fits.now) }
-    ensures read_back { (name compartment influence fits : List ℕ) → Avoids 32 name → Avoids 32 compartment → Avoids 32 influence → IsCutAt 32 fits
-        → line.now ≡ codes "position " ++ (name ++ 32 ∷ (compartment ++ 32 ∷ (influence ++ fits)))
-        → IsSomeAnd result (λ w. (w.name.now ≡ name) × (w.compartment.now ≡ compartment) × (w.influence.now ≡ influence) × (w.fits.now ≡ fits)) }
+    ensures read_back { (bulk : Bool) (name compartment influence fits : List ℕ)
+        → Avoids 32 name → Avoids 32 compartment → Avoids 32 influence → IsCutAt 32 fits
+        → line.now ≡ position_word bulk ++ 32 ∷ (name ++ 32 ∷ (compartment ++ 32 ∷ (influence ++ fits)))
+        → IsSomeAnd result (λ w. (w.bulk ≡ bulk) × (w.name.now ≡ name)
+        × (w.compartment.now ≡ compartment) × (w.influence.now ≡ influence) × (w.fits.now ≡ fits)) }
 {
-    let (name, rest) = split_once(b' ', behind(b"position ", line)?)?;
+    let (keyword, rest) = split_once(b' ', line)?;
+    let bulk = read_keyword(keyword)?;
+    let (name, rest) = split_once(b' ', rest)?;
     let (compartment, rest) = split_once(b' ', rest)?;
     let (influence, fits) = cut(b' ', rest);
     Some(Words {
+        bulk,
         name,
         compartment,
         influence,
@@ -58,11 +68,24 @@ fn position_words(line: &[u8]) -> Option<Words<'_>>
     })
 }
 
+/// Whether the word begins the line of a bulk position, and None where it does not begin that of another either.
+fn read_keyword(word: &[u8]) -> Option<bool>
+    ensures found { IfSome result (λ bulk. word.now ≡ position_word bulk) }
+    ensures none { IfNone result ((bulk : Bool) → word.now ≢ position_word bulk) }
+{
+    match word {
+        b"bulk" => Some(true),
+        b"position" => Some(false),
+        _ => None,
+    }
+}
+
 /// The kinds and masses, each word behind its space.
 fn read_fits(alloc: Global, words: &[u8]) -> Result<Option<Vec<Fit>>, NoMemory>
     requires { IsCutAt 32 words.now }
-    ensures found { IfOk result (λ r. IfSome r (λ fits. (words.now ≡ fits_text fits.items) × All IsSpelledFit fits.items)) }
-    ensures read_back { (fits : List Fit) → All IsSpelledFit fits → words.now ≡ fits_text fits
+    ensures found { IfOk result (λ r. IfSome r (λ fits.
+        (words.now ≡ run_text fit_text fits.items) × All IsSpelledFit fits.items)) }
+    ensures read_back { (fits : List Fit) → All IsSpelledFit fits → words.now ≡ run_text fit_text fits
         → IfOk result (λ r. IsSomeAnd r (λ v. v.items ≡ fits)) }
 {
     let mut fits = Vec::new(alloc);
@@ -79,8 +102,10 @@ fn read_fits(alloc: Global, words: &[u8]) -> Result<Option<Vec<Fit>>, NoMemory>
 
 /// The kind and mass at the front, and the words behind them.
 fn next_fit(words: &[u8]) -> Option<(Fit, &[u8])>
-    ensures found { IfSome result (λ x. (words.now ≡ fit_text x.0 ++ x.1.now) × IsSpelledFit x.0 × IsCutAt 32 x.1.now) }
-    ensures read_back { (fit : Fit) (rest : List ℕ) → IsSpelledFit fit → IsCutAt 32 rest → words.now ≡ fit_text fit ++ rest
+    ensures found { IfSome result (λ x. (words.now ≡ fit_text x.0 ++ x.1.now) × IsSpelledFit x.0
+        × IsCutAt 32 x.1.now) }
+    ensures read_back { (fit : Fit) (rest : List ℕ)
+        → IsSpelledFit fit → IsCutAt 32 rest → words.now ≡ fit_text fit ++ rest
         → IsSomeAnd result (λ x. (x.0 ≡ fit) × (x.1.now ≡ rest)) }
 {
     let (kind, rest) = split_once(b' ', behind(b" ", words)?)?;
@@ -92,15 +117,15 @@ fn next_fit(words: &[u8]) -> Option<(Fit, &[u8])>
 
 /// The position of these words and these kinds and masses.
 fn position_of(words: Words<'_>, fits: Vec<Fit>) -> Option<Position>
-    ensures found { IfSome result (λ q. (words.entry.name.now ≡ q.name) × IsName q.name
+    ensures found { IfSome result (λ q. (words.entry.bulk ≡ q.bulk) × (words.entry.name.now ≡ q.name) × IsName q.name
         × (words.entry.compartment.now ≡ number_text q.compartment) × (q.compartment ≤ 9)
         × (words.entry.influence.now ≡ signed_text q.influence) × IsSignedNumber q.influence
-        × (q.bulk ≡ false) × (q.fits ≡ fits.items) × (1 ≤ length fits.items)) }
-    ensures read_back { (q : Position) → IsSpelledPosition q → words.entry.name.now ≡ q.name
+        × (q.fits ≡ fits.items) × HasItsKinds q.bulk q.fits) }
+    ensures read_back { (q : Position) → IsSpelledPosition q → words.entry.bulk ≡ q.bulk → words.entry.name.now ≡ q.name
         → words.entry.compartment.now ≡ number_text q.compartment → words.entry.influence.now ≡ signed_text q.influence
         → fits.items ≡ q.fits → result ≡ Some q }
 {
-    if fits.is_empty() {
+    if fits.is_empty() != words.bulk {
         return None;
     }
     let name = Name::read(words.name)?;
@@ -110,7 +135,7 @@ fn position_of(words: Words<'_>, fits: Vec<Fit>) -> Option<Position>
         name,
         compartment,
         influence,
-        bulk: false,
+        bulk: words.bulk,
         fits: Fits::from(fits),
     })
 }

@@ -1,79 +1,129 @@
-ghost use Rattle.std.specs.Prelude.{◌≡◌, IfOk, IfErr, MatchResult};
+ghost use Rattle.std.specs.Prelude.{◌≡◌, ◌∷◌, ◌++◌, [], All, codes, IfOk, IfErr, OnOk, MatchResult, None};
+ghost use Rattle.hold_limits.specs.declared.parts.Position.{Position};
+ghost use Rattle.problem_text.specs.Cuts.{Avoids};
 ghost use Rattle.hold_limits.specs.Problem.{Problem};
-ghost use Rattle.hold_limits.specs.Faults.{IsLawful, IsWellSpelled};
+ghost use Rattle.hold_limits.specs.Faults.{IsLawful, IsWellSpelled, hold_fault, task_fault};
 ghost use Rattle.problem_text.specs.TaskText.{Spells};
-ghost use Rattle.problem_text.specs.Parts.{problem_of_parts};
-ghost use Rattle.problem_text.specs.Reading.{IsAnswer, TellsTask, IsTextFault};
+ghost use Rattle.problem_text.specs.Refusals.{IsRefused};
+ghost use Rattle.problem_text.specs.Places.{keep_problem};
+ghost use Rattle.problem_text.specs.Parts.{AreSections, problem_of_parts};
+ghost use Rattle.problem_text.specs.Reading.{IsFaultOf};
 
 use crate::fault::TextFault;
+use crate::line_kinds::{
+    CombinedLines, CumulativeLines, ExcludeLines, ItemLines, LooseLines, PositionLines,
+};
 use crate::lines::Lines;
-use crate::parts::Parts;
-use crate::sections::{expect_line, read_end, read_indices, read_items, read_positions};
-use hold_limits::{Hold, Task};
+use crate::names::Names;
+use crate::parts::{Indices, Parts, Sections};
+use crate::sections::read_section;
+use crate::single_lines::{expect_line, next_band, next_index};
+use desk_base::NoMemory;
+use hold_limits::{Hold, Position, Task};
 use std::alloc::Global;
 
-/// Reads the task that the text spells: a line `TASK 1`, the positions from nose to tail, the containers in the
-/// order of the offer, the lines `base`, `window` and `ideal`, and a line `END`. One LF ends each line, and one
-/// space parts two words of it. A text spells one task at most.
+/// Reads the task that the text spells. One LF ends each line, and one space parts two words of it.
 ///
 /// A text that spells no task is refused with the number of its first wrong line, or for its early end. One that
-/// spells a task which is not lawful is refused with the fault of the hold, or else with that of the task. The
-/// time is in proportion to the text.
+/// spells a task which is not lawful is refused with the fault of the hold, or else with that of the task. A text
+/// has one fault at most, as [`reading_laws`](crate::reading_laws) says. The time grows with the length of the text,
+/// and for each name in it with the logarithm of the number of positions.
 pub fn read_task(alloc: Global, text: &[u8]) -> Result<Task, TextFault>
-    ensures answered { (t : Problem) → Spells text.now t → IsAnswer t result }
-    ensures spelled { TellsTask result → (t : Problem) × Spells text.now t × IsAnswer t result }
-    ensures one_task { (a b : Problem) → Spells text.now a → Spells text.now b → a ≡ b }
-    ensures lawful { IfOk result (λ task. IsLawful task) }
+    ensures read { IfOk result (λ task. Spells text.now task × IsLawful task) }
+    ensures refused { IfErr result (IsRefused text.now) }
+    ensures complete { (t : Problem) → Spells text.now t → hold_fault t.hold ≡ None → task_fault t ≡ None
+        → MatchResult result (λ task. task ≡ t) (λ fault. fault ≡ TextFault.NoMemory) }
 {
     let parts = read_parts(alloc, text)?;
-    task_of(alloc, parts)
+    task_of(parts)
 }
 
 /// The parts that the lines of the text spell.
 fn read_parts(alloc: Global, text: &[u8]) -> Result<Parts, TextFault>
-    ensures read { IfOk result (λ parts. Spells text.now (problem_of_parts parts)) }
-    ensures read_back { (t : Problem) → Spells text.now t
-        → MatchResult result (λ parts. problem_of_parts parts ≡ t) (λ fault. fault ≡ TextFault.NoMemory) }
-    ensures refused { IfErr result IsTextFault }
+    ensures read { IfOk result (λ parts. (t : Problem) × Spells text.now t
+        × (problem_of_parts parts ≡ keep_problem t)) }
+    ensures refused { IfErr result (IsRefused text.now) }
 {
     let mut lines = Lines::new(text);
     expect_line(b"TASK 1", &mut lines)?;
-    let positions = read_positions(alloc, &mut lines)?;
-    let items = read_items(alloc, &mut lines)?;
-    let indices = read_indices(&mut lines)?;
-    read_end(&mut lines)?;
+    let positions = read_section(alloc, &PositionLines, &mut lines)?;
+    let sections = read_sections(alloc, &positions, &mut lines)?;
+    let base = next_index(b"base ", &mut lines)?;
+    let window = next_band(b"window ", &mut lines)?;
+    let ideal = next_band(b"ideal ", &mut lines)?;
+    expect_line(b"END", &mut lines)?;
+    if !lines.rest.is_empty() {
+        return Err(TextFault::Line(lines.number));
+    }
+    let indices = Indices {
+        base,
+        window,
+        ideal,
+    };
     Ok(Parts {
         positions,
-        items,
+        sections,
         indices,
     })
 }
 
+/// What the lines behind those of the positions say, up to those of the indices.
+fn read_sections(
+    alloc: Global,
+    positions: &[Position],
+    lines: &mut Lines<'_>,
+) -> Result<Sections, NoMemory>
+    requires { All (λ (q : Position). Avoids 32 q.name) positions.now }
+    ensures { IfOk result (AreSections positions.now lines.old.rest.now lines.new.rest.now lines.old.number lines.new.number) }
+{
+    let names = Names::new(alloc, positions)?;
+    let excludes = read_section(alloc, &ExcludeLines(&names), lines)?;
+    let combined = read_section(alloc, &CombinedLines(&names), lines)?;
+    let cumulative = read_section(alloc, &CumulativeLines(&names), lines)?;
+    let items = read_section(alloc, &ItemLines, lines)?;
+    let loose = read_section(alloc, &LooseLines(&names), lines)?;
+    Ok(Sections {
+        excludes,
+        combined,
+        cumulative,
+        items,
+        loose,
+    })
+}
+
 /// The task of the parts, or the first fault of its hold, or else of itself.
-fn task_of(alloc: Global, parts: Parts) -> Result<Task, TextFault>
+fn task_of(parts: Parts) -> Result<Task, TextFault>
     requires { IsWellSpelled (problem_of_parts parts).hold }
-    ensures answer { IsAnswer (problem_of_parts parts) result }
-    ensures lawful { IfOk result (λ task. IsLawful task) }
+    ensures made { IfOk result (λ task. (task ≡ problem_of_parts parts) × IsLawful task) }
+    ensures refused { IfErr result (IsFaultOf (problem_of_parts parts)) }
 {
     let Parts {
         positions,
-        items,
+        sections,
         indices,
     } = parts;
-    let hold = match Hold::new(positions, Vec::new(alloc), Vec::new(alloc), Vec::new(alloc)) {
+    let Sections {
+        excludes,
+        combined,
+        cumulative,
+        items,
+        loose,
+    } = sections;
+    let hold = match Hold::new(positions, excludes, combined, cumulative) {
         Ok(hold) => hold,
         Err(fault) => return Err(TextFault::Hold(fault)),
     };
-    match Task::new(
+    let made = Task::new(
         hold,
         items,
-        Vec::new(alloc),
+        loose,
         indices.base,
         indices.window.low,
         indices.window.high,
         indices.ideal.low,
         indices.ideal.high,
-    ) {
+    );
+    match made {
         Ok(task) => Ok(task),
         Err(fault) => Err(TextFault::Task(fault)),
     }

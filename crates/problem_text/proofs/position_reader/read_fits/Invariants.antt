@@ -1,11 +1,11 @@
 use Rattle.std.proofs.Common.{◌≡◌, ◌++◌, length, All}
 use Rattle.problem_text.specs.Cuts.{IsCutAt}
-use Rattle.problem_text.specs.FitText.{fits_text, IsSpelledFit}
+use Rattle.problem_text.specs.WordRuns.{run_text, fit_text, IsSpelledFit}
 use Rattle.problem_text.proofs.position_reader.read_fits.Given as goal
 
 abbrev pub invariant-loop-rest : goal.invariant-loop-rest
 invariant-loop-rest l = record {
-  read : l.words ≡ fits_text l.fits.items ++ l.rest;
+  read : l.words ≡ run_text fit_text l.fits.items ++ l.rest;
   spelled : All IsSpelledFit l.fits.items;
   cut : IsCutAt 32 l.rest;
 }

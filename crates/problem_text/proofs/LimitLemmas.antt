@@ -1,0 +1,126 @@
+-- lines that name positions
+use Rattle.std.proofs.Common.{◌≡◌, ◌≢◌, ℕ, ◌≤◌, Bool, true, false, eqb, ◌++◌, ◌∷◌, List, [], length, map, refl, sym, ◌∙◌, ap, arith, All, codes, lit<}
+use Rattle.std.proofs.lemmas.List.{append-nil, append_cancel_left}
+use Rattle.std.proofs.lemmas.List.Elements.{All-head, All-tail, All-cons, All-nil, All-same}
+use Rattle.mass_units.specs.Spelling.{number_text}
+use Rattle.mass_units.proofs.SpellingLemmas.{number_text-avoids, number_text-injective}
+use Rattle.hold_limits.specs.declared.parts.Position.{Position}
+use Rattle.hold_limits.specs.declared.parts.Combined.{Combined}
+use Rattle.hold_limits.specs.declared.parts.Cumulative.{Cumulative}
+use Rattle.hold_limits.specs.declared.parts.Loose.{Loose}
+use Rattle.problem_text.specs.Cuts.{Avoids}
+use Rattle.problem_text.specs.WordRuns.{run_text, name_text}
+use Rattle.problem_text.specs.TaskText.{line_of, side_word, exclude_line, combined_line, cumulative_line, loose_line, name_at, IsNamed, IsSpelledExclude, IsSpelledCombined, IsSpelledCumulative, IsSpelledLoose}
+use Rattle.problem_text.proofs.CutLemmas.{cut_once, split_once_again}
+use Rattle.problem_text.proofs.WordLemmas.{avoids-append, avoids-spaced, plain_word}
+use Rattle.problem_text.proofs.NameLemmas.{name_at-avoids, named_once}
+use Rattle.problem_text.proofs.RunLemmas.{AreRead, run_text-begins, run_once}
+
+-- the names of the positions hold no such byte
+abbrev pub AreClear : ℕ → List Position → Type 0
+AreClear k ps = All (λ (q : Position). Avoids k q.name) ps
+
+-- ---- a combined line
+
+pub names_are_read : (ps : List Position) → AreClear 32 ps → AreRead (name_text ps) (IsNamed ps)
+names_are_read ps clear = record {
+  some = λ q. omega arith;
+  begins = λ q rest. refl;
+  once = λ p q rest rest' s t cut cut' e.
+      let names : name_at ps p ++ rest ≡ name_at ps q ++ rest' = cc in
+      let parts = cut_once 32 (name_at ps p) rest (name_at ps q) rest' (name_at-avoids 32 ps p clear s.known) (name_at-avoids 32 ps q clear t.known) cut cut' names in
+      (named_once ps p q s t parts.0, parts.1);
+}
+
+line_of-names : (word : List ℕ) (ps : List Position) (places : List ℕ) → line_of (word ∷ map (name_at ps) places) ≡ word ++ run_text (name_text ps) places
+line_of-names word ps [] = sym (append-nil word)
+line_of-names word ps (q ∷ places) = ap (λ t. word ++ 32 ∷ t) (line_of-names (name_at ps q) ps places)
+
+pub combined_line-is : (ps : List Position) (limit : Combined) → combined_line ps limit ≡ codes "combined " ++ (number_text limit.most.0 ++ run_text (name_text ps) limit.places)
+combined_line-is ps limit = ap (λ t. codes "combined " ++ t) (line_of-names (number_text limit.most.0) ps limit.places)
+
+pub run_is_some : (ps : List Position) (places : List ℕ) → 1 ≤ length places → run_text (name_text ps) places ≢ []
+run_is_some ps [] some e = absurd (omega arith)
+run_is_some ps (q ∷ places) some e = absurd (cc)
+
+pub some_in_run : (ps : List Position) (places words : List ℕ) → words ≢ [] → words ≡ run_text (name_text ps) places → 1 ≤ length places
+some_in_run ps [] words some e = absurd (some e)
+some_in_run ps (q ∷ places) words some e = omega arith
+
+names_avoid : (ps : List Position) (places : List ℕ) → AreClear 10 ps → All (IsNamed ps) places → Avoids 10 (run_text (name_text ps) places)
+names_avoid ps [] clear named = All-nil (λ b. eqb b 10 ≡ false)
+names_avoid ps (q ∷ places) clear named =
+    let here = All-head (IsNamed ps) q places named in
+    avoids-append 10 (name_text ps q) (run_text (name_text ps) places) (All-cons (λ b. eqb b 10 ≡ false) 32 (name_at ps q) refl (name_at-avoids 10 ps q clear here.known)) (names_avoid ps places clear (All-tail (IsNamed ps) q places named))
+
+pub combined_avoids : (ps : List Position) → AreClear 10 ps → (limit : Combined) → IsSpelledCombined ps limit → Avoids 10 (combined_line ps limit)
+combined_avoids ps clear limit s =
+    let words = avoids-append 10 (number_text limit.most.0) (run_text (name_text ps) limit.places) (number_text-avoids 10 limit.most.0 (lit< tt)) (names_avoid ps limit.places clear s.places) in
+    All-same (λ b. eqb b 10 ≡ false) (combined_line ps limit) _ (combined_line-is ps limit) (avoids-append 10 (codes "combined ") _ (plain_word 10 (codes "combined ") refl) words)
+
+pub combined_once : (ps : List Position) → AreClear 32 ps → (a b : Combined) → IsSpelledCombined ps a → IsSpelledCombined ps b → combined_line ps a ≡ combined_line ps b → a ≡ b
+combined_once ps clear a b s t e =
+    let read = names_are_read ps clear in
+    let begins = run_text-begins (name_text ps) (IsNamed ps) read in
+    let rest = append_cancel_left (codes "combined ") _ _ (sym (combined_line-is ps a) ∙ e ∙ combined_line-is ps b) in
+    let parts = cut_once 32 (number_text a.most.0) (run_text (name_text ps) a.places) (number_text b.most.0) (run_text (name_text ps) b.places) (number_text-avoids 32 a.most.0 (lit< tt)) (number_text-avoids 32 b.most.0 (lit< tt)) (begins a.places) (begins b.places) rest in
+    let most = number_text-injective a.most.0 b.most.0 parts.0 in
+    let places = run_once (name_text ps) (IsNamed ps) read a.places b.places s.places t.places parts.1 in
+    λ i. record { places = places i; most = record { 0 = most i } }
+
+-- ---- an exclude line
+
+pub exclude_avoids : (ps : List Position) → AreClear 10 ps → (pair : ℕ × ℕ) → IsSpelledExclude ps pair → Avoids 10 (exclude_line ps pair)
+exclude_avoids ps clear pair s =
+    avoids-append 10 (codes "exclude ") (name_at ps pair.0 ++ 32 ∷ name_at ps pair.1) (plain_word 10 (codes "exclude ") refl) (avoids-spaced 10 (name_at ps pair.0) (name_at ps pair.1) refl (name_at-avoids 10 ps pair.0 clear s.0.known) (name_at-avoids 10 ps pair.1 clear s.1.known))
+
+pub exclude_once : (ps : List Position) → AreClear 32 ps → (a b : ℕ × ℕ) → IsSpelledExclude ps a → IsSpelledExclude ps b → exclude_line ps a ≡ exclude_line ps b → a ≡ b
+exclude_once ps clear a b s t e =
+    let parts = split_once_again 32 (name_at ps a.0) (name_at ps a.1) (name_at ps b.0) (name_at ps b.1) (name_at-avoids 32 ps a.0 clear s.0.known) (name_at-avoids 32 ps b.0 clear t.0.known) (append_cancel_left (codes "exclude ") _ _ e) in
+    let first = named_once ps a.0 b.0 s.0 t.0 parts.0 in
+    let second = named_once ps a.1 b.1 s.1 t.1 parts.1 in
+    λ i. (first i, second i)
+
+-- ---- a cumulative line
+
+side_without_space : (forward : Bool) → Avoids 32 (side_word forward)
+side_without_space true = plain_word 32 (codes "forward") refl
+side_without_space false = plain_word 32 (codes "aft") refl
+
+side_without_end : (forward : Bool) → Avoids 10 (side_word forward)
+side_without_end true = plain_word 10 (codes "forward") refl
+side_without_end false = plain_word 10 (codes "aft") refl
+
+side_once : (a b : Bool) → side_word a ≡ side_word b → a ≡ b
+side_once true true e = refl
+side_once true false e = absurd (cc)
+side_once false true e = absurd (cc)
+side_once false false e = refl
+
+pub cumulative_avoids : (ps : List Position) → AreClear 10 ps → (limit : Cumulative) → IsSpelledCumulative ps limit → Avoids 10 (cumulative_line ps limit)
+cumulative_avoids ps clear limit s =
+    let end = avoids-spaced 10 (name_at ps limit.place) (number_text limit.most.0) refl (name_at-avoids 10 ps limit.place clear s.place.known) (number_text-avoids 10 limit.most.0 (lit< tt)) in
+    let words = avoids-spaced 10 (side_word limit.forward) (name_at ps limit.place ++ 32 ∷ number_text limit.most.0) refl (side_without_end limit.forward) end in
+    avoids-append 10 (codes "cumulative ") _ (plain_word 10 (codes "cumulative ") refl) words
+
+pub cumulative_once : (ps : List Position) → AreClear 32 ps → (a b : Cumulative) → IsSpelledCumulative ps a → IsSpelledCumulative ps b → cumulative_line ps a ≡ cumulative_line ps b → a ≡ b
+cumulative_once ps clear a b s t e =
+    let sides = split_once_again 32 (side_word a.forward) (name_at ps a.place ++ 32 ∷ number_text a.most.0) (side_word b.forward) (name_at ps b.place ++ 32 ∷ number_text b.most.0) (side_without_space a.forward) (side_without_space b.forward) (append_cancel_left (codes "cumulative ") _ _ e) in
+    let names = split_once_again 32 (name_at ps a.place) (number_text a.most.0) (name_at ps b.place) (number_text b.most.0) (name_at-avoids 32 ps a.place clear s.place.known) (name_at-avoids 32 ps b.place clear t.place.known) sides.1 in
+    let forward = side_once a.forward b.forward sides.0 in
+    let place = named_once ps a.place b.place s.place t.place names.0 in
+    let most = number_text-injective a.most.0 b.most.0 names.1 in
+    λ i. record { forward = forward i; place = place i; most = record { 0 = most i } }
+
+-- ---- a loose line
+
+pub loose_avoids : (ps : List Position) → AreClear 10 ps → (load : Loose) → IsSpelledLoose ps load → Avoids 10 (loose_line ps load)
+loose_avoids ps clear load s =
+    avoids-append 10 (codes "loose ") _ (plain_word 10 (codes "loose ") refl) (avoids-spaced 10 (name_at ps load.position) (number_text load.mass.0) refl (name_at-avoids 10 ps load.position clear s.position.known) (number_text-avoids 10 load.mass.0 (lit< tt)))
+
+pub loose_once : (ps : List Position) → AreClear 32 ps → (a b : Loose) → IsSpelledLoose ps a → IsSpelledLoose ps b → loose_line ps a ≡ loose_line ps b → a ≡ b
+loose_once ps clear a b s t e =
+    let parts = split_once_again 32 (name_at ps a.position) (number_text a.mass.0) (name_at ps b.position) (number_text b.mass.0) (name_at-avoids 32 ps a.position clear s.position.known) (name_at-avoids 32 ps b.position clear t.position.known) (append_cancel_left (codes "loose ") _ _ e) in
+    let position = named_once ps a.position b.position s.position t.position parts.0 in
+    let mass = number_text-injective a.mass.0 b.mass.0 parts.1 in
+    λ i. record { position = position i; mass = record { 0 = mass i } }

@@ -1,0 +1,81 @@
+-- a lawful task whose names and identities are spelled is in its spelling
+use Rattle.std.proofs.Common.{◌≡◌, ◌≢◌, ℕ, ◌<◌, ◌≤◌, ◌^◌, ℤ, Bool, true, false, List, [], length, take, get_or, Some, ap, sym, ◌∙◌, arith, unsigned_abs}
+use Rattle.std.proofs.lemmas.List.{get_or-take, length-take}
+use Rattle.std.proofs.lemmas.List.Elements.{All-weaker}
+use Rattle.std.proofs.lemmas.Option.{slice_get-get_or}
+use Rattle.std.specs.Option.{option_map_or}
+use Rattle.std.specs.Prelude.{All, AllPairs, slice_get}
+use Rattle.mass_units.specs.Spelling.{IsNumber, IsSignedNumber, IsIndex}
+use Rattle.hold_limits.specs.declared.lists.Fit.{Fit}
+use Rattle.hold_limits.specs.declared.parts.Position.{Position}
+use Rattle.hold_limits.specs.declared.parts.Item.{Item}
+use Rattle.hold_limits.specs.Problem.{Problem}
+use Rattle.hold_limits.specs.Spellings.{IsName, IsUldId}
+use Rattle.hold_limits.specs.Faults.{IsLawful}
+use Rattle.hold_limits.specs.Bounds.{HoldBounds, LawfulBounds}
+use Rattle.hold_limits.specs.Bounds as bounds
+use Rattle.hold_limits.proofs.LawfulBounds.{hold-bounds, lawful-bounds}
+use Rattle.problem_text.specs.TaskText.{name_at, HasItsKinds, IsNamed, IsSpelled}
+
+nine_digits : (n : ℕ) → n ≤ 999999999 → n < 10 ^ 9
+nine_digits n most = omega arith
+
+number-small : (n : ℕ) → n ≤ 20000 → IsNumber n
+number-small n most = omega arith
+
+signed-small : (z : ℤ) → unsigned_abs z ≤ 100000 → IsSignedNumber z
+signed-small z most = omega arith
+
+index-right : (z : ℤ) → unsigned_abs z ≤ 1000000000 → IsIndex z
+index-right z most = omega arith
+
+kinds-right : (bulk : Bool) (fits : List Fit) → bounds.HasItsKinds bulk fits → HasItsKinds bulk fits
+kinds-right true fits right = right
+kinds-right false fits right = right.0
+
+-- where no two positions have one name, each is the first of its name
+first_named : (ps : List Position) → AllPairs (λ (a b : Position). a.name ≢ b.name) ps → (q : ℕ) → q < length ps → IsNamed ps q
+first_named ps differ q known = record {
+  known = known;
+  first = λ k d within same.
+      let before : k < q = omega (arith, length-take q ps) in
+      let there : slice_get ps q ≡ Some (get_or ps q d) = slice_get-get_or ps q d known in
+      let name : name_at ps q ≡ (get_or ps q d).name = ap (λ o. option_map_or (λ (place : Position). place.name) o []) there in
+      let earlier : get_or (take q ps) k d ≡ get_or ps k d = get_or-take q ps k d before in
+      differ k q d before known (sym (ap (λ (p : Position). p.name) earlier) ∙ same ∙ name);
+}
+
+pub lawful-spelled : (t : Problem) → IsLawful t → All (λ (q : Position). IsName q.name) t.hold.positions → All (λ (item : Item). IsUldId item.id) t.items → IsSpelled t
+lawful-spelled t lawful names ids =
+    let of_hold = hold-bounds t.hold lawful.hold in
+    let of_task = lawful-bounds t lawful in
+    let spelled = lawful.hold.spelled in
+    let ps = t.hold.positions in
+    let named : (q : ℕ) → q < length ps → IsNamed ps q = first_named ps of_hold.names in
+    record {
+      positions = λ k d within. record {
+        name = names k d within;
+        compartment = spelled.compartments k d within;
+        influence = signed-small (get_or ps k d).influence (of_hold.influences k d within);
+        some = kinds-right _ _ (of_hold.kinds k d within);
+        kinds = spelled.kinds k d within;
+        masses = All-weaker (λ (fit : Fit). (1 ≤ fit.most.0) × (fit.most.0 ≤ 20000)) (λ (fit : Fit). IsNumber fit.most.0) (λ fit right. number-small fit.most.0 right.1) (get_or ps k d).fits (of_hold.masses k d within);
+      };
+      excludes = λ k d within. let known = of_hold.excludes k d within in (named _ known.0, named _ known.1);
+      combined = λ k d within. let limit = of_hold.combined k d within in record {
+        some = limit.0;
+        places = All-weaker (λ q. q < length ps) (IsNamed ps) named (get_or t.hold.combined k d).places limit.1;
+        most = nine_digits _ (spelled.combined k d within);
+      };
+      cumulative = λ k d within. record {
+        place = named _ (of_hold.cumulative k d within);
+        most = nine_digits _ (spelled.cumulative k d within);
+      };
+      items = λ k d within. record { id = ids k d within; mass = number-small _ (of_task.item_masses k d within) };
+      loose = λ k d within. record { position = named _ (of_task.loose_known k d within); mass = number-small _ (of_task.loose_masses k d within) };
+      base = index-right t.base of_task.base;
+      low = index-right t.low of_task.low;
+      high = index-right t.high of_task.high;
+      ideal_low = index-right t.ideal_low of_task.ideal_low;
+      ideal_high = index-right t.ideal_high of_task.ideal_high;
+    }

@@ -1,0 +1,8 @@
+use Rattle.problem_text.specs.TaskText.{exclude_line}
+use Rattle.problem_text.proofs.WriterLemmas.{lines_grow}
+use Rattle.problem_text.proofs.writer.push_excludes.Goals as goal
+
+pub loop-pair-preserved : goal.loop-pair-preserved
+loop-pair-preserved c =
+    lines_grow (exclude_line c.args.positions.now) c.args.excludes.now c.loop-pair.pair-index _ c.args.text.now.items c.loop-pair.text.items _
+    c.loop-pair-test.true c.loop-pair.invariant c.in_ok-push_exclude.ensures

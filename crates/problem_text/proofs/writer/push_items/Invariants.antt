@@ -1,0 +1,9 @@
+use Rattle.std.proofs.Common.{◌≡◌, ◌++◌, take, map, All}
+use Rattle.problem_text.specs.TaskText.{text_of, item_line}
+use Rattle.hold_limits.specs.declared.parts.Item.{Item}
+use Rattle.hold_limits.specs.Spellings.{IsUldId}
+use Rattle.problem_text.proofs.writer.push_items.Given as goal
+
+abbrev pub invariant-loop-item : goal.invariant-loop-item
+invariant-loop-item l = (l.text.items ≡ l.initial.text.items ++ text_of (map item_line (take l.item-index l.items)))
+    × (All (λ (q : Item). IsUldId q.id) (take l.item-index l.items))

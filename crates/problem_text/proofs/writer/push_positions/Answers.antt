@@ -1,0 +1,10 @@
+use Rattle.hold_limits.specs.declared.parts.Position.{Position}
+use Rattle.hold_limits.specs.Spellings.{IsName}
+use Rattle.problem_text.specs.TaskText.{position_line}
+use Rattle.problem_text.proofs.WriterLemmas.{lines_grow_of}
+use Rattle.problem_text.proofs.writer.push_positions.Goals as goal
+
+pub loop-position-preserved : goal.loop-position-preserved
+loop-position-preserved c =
+    lines_grow_of (λ (q : Position). IsName q.name) position_line c.args.positions.now c.loop-position.position-index c.position-item.result c.args.text.now.items c.loop-position.text.items _
+    c.loop-position-test.true c.position-item.is c.loop-position.invariant c.in_ok-push_position.ensures.written c.in_ok-push_position.ensures.named

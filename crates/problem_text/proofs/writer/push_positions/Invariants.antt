@@ -1,0 +1,9 @@
+use Rattle.std.proofs.Common.{◌≡◌, ◌++◌, take, map, All}
+use Rattle.problem_text.specs.TaskText.{text_of, position_line}
+use Rattle.hold_limits.specs.declared.parts.Position.{Position}
+use Rattle.hold_limits.specs.Spellings.{IsName}
+use Rattle.problem_text.proofs.writer.push_positions.Given as goal
+
+abbrev pub invariant-loop-position : goal.invariant-loop-position
+invariant-loop-position l = (l.text.items ≡ l.initial.text.items ++ text_of (map position_line (take l.position-index l.positions)))
+    × (All (λ (q : Position). IsName q.name) (take l.position-index l.positions))

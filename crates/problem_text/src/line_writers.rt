@@ -1,0 +1,231 @@
+//! Lines of a task, appended to a text.
+
+ghost use Rattle.std.specs.Prelude.{◌≡◌, ℕ, ℤ, List, [], ◌∷◌, ◌++◌, OnOk, codes};
+ghost use Rattle.mass_units.specs.Spelling.{number_text, signed_text, index_text};
+ghost use Rattle.hold_limits.specs.Spellings.{IsName, IsUldId};
+ghost use Rattle.problem_text.specs.TaskText.{line_of, name_at, position_word, side_word, position_line, exclude_line, combined_line, cumulative_line, item_line, loose_line};
+ghost use Rattle.problem_text.specs.WordRuns.{run_text, fit_text, name_text};
+
+use desk_base::NoMemory;
+use hold_limits::{Combined, Cumulative, Fit, Item, Loose, Position};
+use mass_units::{Ticks, write_number, write_signed, write_ticks5};
+use std::alloc::Global;
+
+/// The word of a bulk position's line, or of another position's.
+fn word_of_position(bulk: bool) -> &'static [u8]
+    ensures { result.now ≡ position_word bulk }
+{
+    if bulk { b"bulk" } else { b"position" }
+}
+
+/// The word for the side that a cumulative limit counts.
+fn word_of_side(forward: bool) -> &'static [u8]
+    ensures { result.now ≡ side_word forward }
+{
+    if forward { b"forward" } else { b"aft" }
+}
+
+/// The name of a position, and nothing where the number is no position's.
+fn name_of(positions: &[Position], number: u8) -> &[u8]
+    ensures { result.now ≡ name_at positions.now number }
+{
+    match positions.get(number as usize) {
+        Some(position) => position.name.bytes(),
+        None => b"",
+    }
+}
+
+/// Appends a word behind a space.
+fn push_word(text: &mut Vec<u8>, word: &[u8]) -> Result<(), NoMemory>
+    ensures { OnOk result (text.new.items ≡ text.old.items ++ 32 ∷ word.now) }
+{
+    text.push(b' ')?;
+    text.extend_from_slice(word)?;
+    Ok(())
+}
+
+/// Appends a number behind a space.
+fn push_number(alloc: Global, text: &mut Vec<u8>, number: u32) -> Result<(), NoMemory>
+    ensures { OnOk result (text.new.items ≡ text.old.items ++ 32 ∷ number_text number) }
+{
+    text.push(b' ')?;
+    write_number(alloc, u64::from(number), text)
+}
+
+/// Appends the influence of a position behind a space.
+fn push_influence(alloc: Global, text: &mut Vec<u8>, position: &Position) -> Result<(), NoMemory>
+    ensures { OnOk result
+        (text.new.items ≡ text.old.items ++ 32 ∷ signed_text position.now.influence) }
+{
+    text.push(b' ')?;
+    write_signed(alloc, position.influence, text)
+}
+
+/// Appends an index behind a space.
+fn push_index(alloc: Global, text: &mut Vec<u8>, index: Ticks) -> Result<(), NoMemory>
+    ensures { OnOk result (text.new.items ≡ text.old.items ++ 32 ∷ index_text index.0) }
+{
+    text.push(b' ')?;
+    write_ticks5(alloc, index, text)
+}
+
+/// Appends a kind with its greatest mass, each behind a space.
+fn push_fit(alloc: Global, text: &mut Vec<u8>, fit: &Fit) -> Result<(), NoMemory>
+    ensures { OnOk result (text.new.items ≡ text.old.items ++ fit_text fit.now) }
+{
+    push_word(text, fit.kind.as_slice())?;
+    push_number(alloc, text, fit.most.0)
+}
+
+/// Appends the kinds of a position with their greatest masses.
+fn push_fits(alloc: Global, text: &mut Vec<u8>, fits: &[Fit]) -> Result<(), NoMemory>
+    ensures { OnOk result (text.new.items ≡ text.old.items ++ run_text fit_text fits.now) }
+{
+    for fit in fits {
+        push_fit(alloc, text, fit)?;
+    }
+    Ok(())
+}
+
+/// Appends the line of a position.
+pub fn push_position(alloc: Global, text: &mut Vec<u8>, position: &Position) -> Result<(), NoMemory>
+    ensures written { OnOk result
+        (text.new.items ≡ text.old.items ++ (position_line position.now ++ 10 ∷ [])) }
+    ensures named { IsName position.now.name }
+{
+    let name = position.name.bytes();
+    text.extend_from_slice(word_of_position(position.bulk))?;
+    push_word(text, name)?;
+    push_number(alloc, text, u32::from(position.compartment))?;
+    push_influence(alloc, text, position)?;
+    push_fits(alloc, text, position.fits.as_slice())?;
+    text.push(b'\n')?;
+    Ok(())
+}
+
+/// Appends the line of an excluding pair.
+pub fn push_exclude(
+    text: &mut Vec<u8>,
+    positions: &[Position],
+    pair: (u8, u8),
+) -> Result<(), NoMemory>
+    ensures { OnOk result
+        (text.new.items ≡ text.old.items ++ (exclude_line positions.now pair ++ 10 ∷ [])) }
+{
+    text.extend_from_slice(b"exclude")?;
+    push_word(text, name_of(positions, pair.0))?;
+    push_word(text, name_of(positions, pair.1))?;
+    text.push(b'\n')?;
+    Ok(())
+}
+
+/// Appends the names of positions.
+fn push_names(text: &mut Vec<u8>, positions: &[Position], places: &[u8]) -> Result<(), NoMemory>
+    ensures { OnOk result
+        (text.new.items ≡ text.old.items ++ run_text (name_text positions.now) places.now) }
+{
+    for place in places {
+        push_word(text, name_of(positions, *place))?;
+    }
+    Ok(())
+}
+
+/// Appends the line of a combined limit.
+pub fn push_combined(
+    alloc: Global,
+    text: &mut Vec<u8>,
+    positions: &[Position],
+    limit: &Combined,
+) -> Result<(), NoMemory>
+    ensures { OnOk result
+        (text.new.items ≡ text.old.items ++ (combined_line positions.now limit.now ++ 10 ∷ [])) }
+{
+    text.extend_from_slice(b"combined")?;
+    push_number(alloc, text, limit.most.0)?;
+    push_names(text, positions, limit.places.as_slice())?;
+    text.push(b'\n')?;
+    Ok(())
+}
+
+/// Appends the line of a cumulative limit.
+pub fn push_cumulative(
+    alloc: Global,
+    text: &mut Vec<u8>,
+    positions: &[Position],
+    limit: &Cumulative,
+) -> Result<(), NoMemory>
+    ensures { OnOk result
+        (text.new.items ≡ text.old.items ++ (cumulative_line positions.now limit.now ++ 10 ∷ [])) }
+{
+    text.extend_from_slice(b"cumulative")?;
+    push_word(text, word_of_side(limit.forward))?;
+    push_word(text, name_of(positions, limit.place))?;
+    push_number(alloc, text, limit.most.0)?;
+    text.push(b'\n')?;
+    Ok(())
+}
+
+/// Appends the line of a container.
+pub fn push_item(alloc: Global, text: &mut Vec<u8>, item: &Item) -> Result<(), NoMemory>
+    ensures written { OnOk result
+        (text.new.items ≡ text.old.items ++ (item_line item.now ++ 10 ∷ [])) }
+    ensures identified { IsUldId item.now.id }
+{
+    let id = item.id.bytes();
+    text.extend_from_slice(b"item")?;
+    push_word(text, id)?;
+    push_number(alloc, text, item.mass.0)?;
+    text.push(b'\n')?;
+    Ok(())
+}
+
+/// Appends the line of a loose load.
+pub fn push_loose(
+    alloc: Global,
+    text: &mut Vec<u8>,
+    positions: &[Position],
+    load: &Loose,
+) -> Result<(), NoMemory>
+    ensures { OnOk result
+        (text.new.items ≡ text.old.items ++ (loose_line positions.now load.now ++ 10 ∷ [])) }
+{
+    text.extend_from_slice(b"loose")?;
+    push_word(text, name_of(positions, load.position))?;
+    push_number(alloc, text, load.mass.0)?;
+    text.push(b'\n')?;
+    Ok(())
+}
+
+/// Appends a line of a word and an index.
+pub fn push_index_line(
+    alloc: Global,
+    text: &mut Vec<u8>,
+    word: &[u8],
+    index: Ticks,
+) -> Result<(), NoMemory>
+    ensures { OnOk result
+        (text.new.items ≡ text.old.items ++ (line_of (word.now ∷ index_text index.0 ∷ []) ++ 10 ∷ [])) }
+{
+    text.extend_from_slice(word)?;
+    push_index(alloc, text, index)?;
+    text.push(b'\n')?;
+    Ok(())
+}
+
+/// Appends a line of a word and the ends of a range of indices.
+pub fn push_band_line(
+    alloc: Global,
+    text: &mut Vec<u8>,
+    word: &[u8],
+    low: Ticks,
+    high: Ticks,
+) -> Result<(), NoMemory>
+    ensures { OnOk result
+        (text.new.items ≡ text.old.items ++ (line_of (word.now ∷ index_text low.0 ∷ index_text high.0 ∷ []) ++ 10 ∷ [])) }
+{
+    text.extend_from_slice(word)?;
+    push_index(alloc, text, low)?;
+    push_index(alloc, text, high)?;
+    text.push(b'\n')?;
+    Ok(())
+}

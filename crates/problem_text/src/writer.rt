@@ -1,0 +1,124 @@
+//! The text of a task, written.
+
+ghost use Rattle.std.specs.Prelude.{◌≡◌, ◌∷◌, [], ◌++◌, All, IfOk, OnOk, map};
+ghost use Rattle.hold_limits.specs.declared.parts.Item.{Item};
+ghost use Rattle.hold_limits.specs.declared.parts.Position.{Position};
+ghost use Rattle.hold_limits.specs.Spellings.{IsName, IsUldId};
+ghost use Rattle.problem_text.specs.TaskText.{text_of, position_line, exclude_line, combined_line, cumulative_line, item_line, loose_line, base_line, window_line, ideal_line, Spells};
+
+use crate::line_writers::{
+    push_band_line, push_combined, push_cumulative, push_exclude, push_index_line, push_item,
+    push_loose, push_position,
+};
+use desk_base::NoMemory;
+use hold_limits::{Combined, Cumulative, Item, Loose, Position, Task};
+use std::alloc::Global;
+
+fn push_positions(alloc: Global, text: &mut Vec<u8>, positions: &[Position]) -> Result<(), NoMemory>
+    ensures written { OnOk result
+        (text.new.items ≡ text.old.items ++ text_of (map position_line positions.now)) }
+    ensures named { OnOk result (All (λ (q : Position). IsName q.name) positions.now) }
+{
+    for position in positions {
+        push_position(alloc, text, position)?;
+    }
+    Ok(())
+}
+
+fn push_excludes(
+    text: &mut Vec<u8>,
+    positions: &[Position],
+    excludes: &[(u8, u8)],
+) -> Result<(), NoMemory>
+    ensures { OnOk result
+        (text.new.items ≡ text.old.items ++ text_of (map (exclude_line positions.now) excludes.now)) }
+{
+    for pair in excludes {
+        push_exclude(text, positions, *pair)?;
+    }
+    Ok(())
+}
+
+fn push_all_combined(
+    alloc: Global,
+    text: &mut Vec<u8>,
+    positions: &[Position],
+    combined: &[Combined],
+) -> Result<(), NoMemory>
+    ensures { OnOk result
+        (text.new.items ≡ text.old.items ++ text_of (map (combined_line positions.now) combined.now)) }
+{
+    for limit in combined {
+        push_combined(alloc, text, positions, limit)?;
+    }
+    Ok(())
+}
+
+fn push_all_cumulative(
+    alloc: Global,
+    text: &mut Vec<u8>,
+    positions: &[Position],
+    cumulative: &[Cumulative],
+) -> Result<(), NoMemory>
+    ensures { OnOk result
+        (text.new.items ≡ text.old.items ++ text_of (map (cumulative_line positions.now) cumulative.now)) }
+{
+    for limit in cumulative {
+        push_cumulative(alloc, text, positions, limit)?;
+    }
+    Ok(())
+}
+
+fn push_items(alloc: Global, text: &mut Vec<u8>, items: &[Item]) -> Result<(), NoMemory>
+    ensures written { OnOk result
+        (text.new.items ≡ text.old.items ++ text_of (map item_line items.now)) }
+    ensures identified { OnOk result (All (λ (item : Item). IsUldId item.id) items.now) }
+{
+    for item in items {
+        push_item(alloc, text, item)?;
+    }
+    Ok(())
+}
+
+fn push_all_loose(
+    alloc: Global,
+    text: &mut Vec<u8>,
+    positions: &[Position],
+    loose: &[Loose],
+) -> Result<(), NoMemory>
+    ensures { OnOk result
+        (text.new.items ≡ text.old.items ++ text_of (map (loose_line positions.now) loose.now)) }
+{
+    for load in loose {
+        push_loose(alloc, text, positions, load)?;
+    }
+    Ok(())
+}
+
+/// Appends the three lines of the indices.
+fn push_indices(alloc: Global, text: &mut Vec<u8>, task: &Task) -> Result<(), NoMemory>
+    ensures { OnOk result (text.new.items ≡ text.old.items ++ text_of (base_line task.now.base
+        ∷ window_line task.now.low task.now.high ∷ ideal_line task.now.ideal_low task.now.ideal_high ∷ [])) }
+{
+    push_index_line(alloc, text, b"base", task.base())?;
+    push_band_line(alloc, text, b"window", task.low(), task.high())?;
+    push_band_line(alloc, text, b"ideal", task.ideal_low(), task.ideal_high())
+}
+
+/// Writes the one text of the task. Read back, it is the same task.
+pub fn write_task(alloc: Global, task: &Task) -> Result<Vec<u8>, NoMemory>
+    ensures { IfOk result (λ text. Spells text.items task.now) }
+{
+    let hold = task.hold();
+    let mut text = Vec::new(alloc);
+    text.extend_from_slice(b"TASK 1\n")?;
+    push_positions(alloc, &mut text, hold.positions())?;
+    push_excludes(&mut text, hold.positions(), hold.excludes())?;
+    push_all_combined(alloc, &mut text, hold.positions(), hold.combined())?;
+    push_all_cumulative(alloc, &mut text, hold.positions(), hold.cumulative())?;
+    push_items(alloc, &mut text, task.items())?;
+    push_all_loose(alloc, &mut text, hold.positions(), task.loose())?;
+    push_indices(alloc, &mut text, task)?;
+    text.extend_from_slice(b"END\n")?;
+    Ok(text)
+}
