@@ -1,6 +1,5 @@
 pub mod WordLemmas
 pub mod TextLemmas
-pub mod SearchLemmas
 pub mod JudgingLemmas
 pub mod ReplyLemmas
 pub mod RunLemmas

@@ -4,7 +4,7 @@ use Rattle.desk_base.specs.Faults.{Rose}
 use Rattle.load_io.specs.Sink.{Appends, AppendsPart}
 use Rattle.loadctl.specs.declared.status.Status.{Status}
 use Rattle.loadctl.specs.declared.status.Status.TheVariants.{Done, Usage, BadInput, NothingFits, OverBudget, ReadFault, WriteFault, NoMemory}
-use Rattle.loadctl.specs.Run.{IsAnswered}
+use Rattle.loadctl.specs.Run.{IsAnswered, IsRefusing}
 use Rattle.loadctl.specs.Judging.{IsAnsweredBy, status_number}
 
 -- a status is that of a fault of the output, or another
@@ -35,4 +35,12 @@ pub answered-at : (old new : Option (List ℕ)) (before now : ℕ) (text : List 
 answered-at old new before now text status s result is still whole part number = ⊎_elim
     (λ fault. absurd (still (part fault).0))
     (λ other. rw (number, (whole other).0) (answered-number status is))
+    (write_fault_or s)
+
+-- a refusal that was printed, likewise
+pub refused-at : (old new : Option (List ℕ)) (before now : ℕ) (text : List ℕ) (status s : Status) (result : ℕ) → status ≡ BadInput → (Rose before now → ⊥)
+    → (s ≢ WriteFault → (s ≡ status) × Appends old new text) → (s ≡ WriteFault → Rose before now × AppendsPart old new text) → result ≡ status_number s → IsRefusing result
+refused-at old new before now text status s result is still whole part number = ⊎_elim
+    (λ fault. absurd (still (part fault).0))
+    (λ other. rw (number, (whole other).0, is) refl)
     (write_fault_or s)

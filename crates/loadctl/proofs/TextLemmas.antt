@@ -1,13 +1,14 @@
 -- texts of lines, put together
-use Rattle.std.proofs.Common.{◌≡◌, ℕ, ◌+◌, ◌<◌, ◌≤◌, List, [], ◌∷◌, ◌++◌, length, get_or, take, Some, refl, ap, ap₂, sym, ◌∙◌, append_assoc}
-use Rattle.std.proofs.lemmas.List.{map-append}
+use Rattle.std.proofs.Common.{◌≡◌, ℕ, ◌+◌, ◌<◌, ◌≤◌, List, [], ◌∷◌, ◌++◌, length, get_or, take, Some, refl, ap, ap₂, sym, ◌∙◌, append_assoc, arith}
+use Rattle.std.proofs.lemmas.List.{map-append, take_more}
+use Rattle.std.proofs.lemmas.Option.{get_or_from_slice_get, slice_get-get_or}
 use Rattle.std.specs.Prelude.{slice_get, codes, pos}
 use Rattle.mass_units.specs.Spelling.{index_text}
 use Rattle.hold_limits.specs.declared.parts.Item.{Item}
 use Rattle.hold_limits.specs.Problem.{Problem}
 use Rattle.hold_limits.specs.BranchOrder.{ordered}
-use Rattle.hold_limits.specs.Placement.{placed, take_off_index, distance}
-use Rattle.hold_limits.proofs.PlacedLemmas.{take-placed_more}
+use Rattle.hold_limits.specs.Placement.{Placed, placed, take_off_index, distance}
+use Rattle.hold_limits.proofs.PlacedLemmas.{length-placed, placed-at}
 use Rattle.problem_text.specs.TaskText.{line_of, text_of}
 use Rattle.loadctl.specs.AnswerText.{one_line, place_line, place_lines, plan_text}
 
@@ -15,11 +16,20 @@ pub text_of-append : (a b : List (List ℕ)) → text_of (a ++ b) ≡ text_of a 
 text_of-append [] b = refl
 text_of-append (line ∷ a) b = ap (λ rest. line ++ 10 ∷ rest) (text_of-append a b) ∙ sym (append_assoc line (10 ∷ text_of a) (text_of b))
 
+-- the containers up to the next rank: one more, with the number there
+take-placed : (t : Problem) (path : List ℕ) (rank : ℕ) (item : Item) → length path ≤ length t.items → rank < length path → slice_get (ordered t.items) rank ≡ Some item
+    → take (rank + 1) (placed t path) ≡ take rank (placed t path) ++ (item, get_or path rank 0) ∷ []
+take-placed t path rank item short within there =
+    let p : Placed = (item, get_or path rank 0) in
+    let inside : rank < length (placed t path) = omega (arith, length-placed t path short) in
+    let at : slice_get (placed t path) rank ≡ Some p = placed-at t path rank (get_or path rank 0) item there (slice_get-get_or path rank 0 within) in
+    take_more (placed t path) rank p inside ∙ ap (λ x. take rank (placed t path) ++ x ∷ []) (get_or_from_slice_get (placed t path) rank p p at)
+
 -- the lines of one container more
 pub place_lines-more : (t : Problem) (path : List ℕ) (rank : ℕ) (item : Item) → length path ≤ length t.items → rank < length path → slice_get (ordered t.items) rank ≡ Some item
     → text_of (place_lines t (take (rank + 1) (placed t path))) ≡ text_of (place_lines t (take rank (placed t path))) ++ text_of (place_line t.hold (item, get_or path rank 0) ∷ [])
 place_lines-more t path rank item short within there =
-    ap (λ ps. text_of (place_lines t ps)) (take-placed_more t path rank _ item short within there refl)
+    ap (λ ps. text_of (place_lines t ps)) (take-placed t path rank item short within there)
     ∙ ap text_of (map-append (place_line t.hold) (take rank (placed t path)) ((item, get_or path rank 0) ∷ []))
     ∙ text_of-append (place_lines t (take rank (placed t path))) (place_line t.hold (item, get_or path rank 0) ∷ [])
 

@@ -1,8 +1,6 @@
 -- what the program prints
-use Rattle.std.specs.Prelude.{◌≡◌, ℕ, ◌<◌, ◌≤◌, ◌⊎◌, pos, List, [], ◌∷◌, ◌++◌, length, map, codes, slice_get, Some, None}
-use Rattle.std.specs.Option.{option_map_or}
+use Rattle.std.specs.Prelude.{◌≡◌, ℕ, ◌<◌, ◌≤◌, pos, List, [], ◌∷◌, ◌++◌, length, map, codes}
 use Rattle.mass_units.specs.Spelling.{number_text, index_text}
-use Rattle.hold_limits.specs.declared.parts.Position.{Position}
 use Rattle.hold_limits.specs.declared.fault.HoldFault.{HoldFault}
 use Rattle.hold_limits.specs.declared.fault.HoldFault.TheVariants as hold
 use Rattle.hold_limits.specs.declared.fault.TaskFault.{TaskFault}
@@ -10,20 +8,18 @@ use Rattle.hold_limits.specs.declared.fault.TaskFault.TheVariants as task
 use Rattle.hold_limits.specs.Layout.{Layout}
 use Rattle.hold_limits.specs.Problem.{Problem}
 use Rattle.hold_limits.specs.Placement.{Placed, placed, take_off_index, distance}
-use Rattle.hold_limits.specs.Faults.{hold_fault, task_fault}
-use Rattle.problem_text.specs.TaskText.{line_of, text_of, Spells}
+use Rattle.problem_text.specs.TaskText.{line_of, text_of, name_at}
+use Rattle.problem_text.specs.Refusals.{IsRefused}
+use Rattle.problem_text.specs.declared.fault.TextFault.{TextFault}
+use Rattle.problem_text.specs.declared.fault.TextFault.TheVariants as text
 
 -- one line of these words
 abbrev pub one_line : List (List ℕ) → List ℕ
 one_line words = text_of (line_of words ∷ [])
 
--- the name of a position by its number
-abbrev pub name_at : Layout → ℕ → List ℕ
-name_at hold q = option_map_or (λ (place : Position). place.name) (slice_get hold.positions q) []
-
 -- `place ID NAME`: a container and its position
 abbrev pub place_line : Layout → Placed → List ℕ
-place_line hold p = line_of (codes "place" ∷ p.0.id ∷ name_at hold p.1 ∷ [])
+place_line hold p = line_of (codes "place" ∷ p.0.id ∷ name_at hold.positions p.1 ∷ [])
 
 abbrev pub place_lines : Problem → List Placed → List (List ℕ)
 place_lines t containers = map (place_line t.hold) containers
@@ -79,21 +75,18 @@ longest_task = 1048576
 abbrev pub long_text : List ℕ
 long_text = one_line (codes "INPUT" ∷ codes "LONG" ∷ [])
 
--- the text names a line, of any number, or says that the file ends too early
-abbrev pub NamesLine : List ℕ → Type 0
-NamesLine text =
-    ((n : ℕ) × (text ≡ input_text (codes "LINE") n))
-    ⊎ (((n : ℕ) × (text ≡ input_text (codes "LATER") n)) ⊎ (text ≡ one_line (codes "INPUT" ∷ codes "END" ∷ [])))
+-- the line for a fault of a text; want of memory has none
+abbrev pub IsFaultLine : TextFault → List ℕ → Type 0
+IsFaultLine (text.Line n) line = line ≡ input_text (codes "LINE") n
+IsFaultLine text.NoEnd line = line ≡ one_line (codes "INPUT" ∷ codes "END" ∷ [])
+IsFaultLine (text.Hold fault) line = line ≡ input_text (codes "HOLD") (hold_fault_number fault)
+IsFaultLine (text.Task fault) line = line ≡ input_text (codes "TASK") (task_fault_number fault)
+IsFaultLine text.NoMemory line = ⊥
 
 -- why the bytes of a file are refused, and the line that says so
 pub data IsRefusal (bytes : List ℕ) : List ℕ → Type 0 where
   -- they are too many
   too_long : longest_task < length bytes → IsRefusal bytes long_text
-  -- they spell no task
-  no_task : (text : List ℕ) → length bytes ≤ longest_task → ((t : Problem) → Spells bytes t → ⊥) → NamesLine text → IsRefusal bytes text
-  -- they spell a task whose hold has this first fault
-  wrong_hold : (t : Problem) (fault : HoldFault) → length bytes ≤ longest_task → Spells bytes t → hold_fault t.hold ≡ Some fault
-      → IsRefusal bytes (input_text (codes "HOLD") (hold_fault_number fault))
-  -- they spell a task with a lawful hold and this first fault
-  wrong_task : (t : Problem) (fault : TaskFault) → length bytes ≤ longest_task → Spells bytes t → hold_fault t.hold ≡ None → task_fault t ≡ Some fault
-      → IsRefusal bytes (input_text (codes "TASK") (task_fault_number fault))
+  -- they spell no lawful task: this is their first fault
+  no_task : (fault : TextFault) (line : List ℕ) → length bytes ≤ longest_task → IsRefused bytes fault → IsFaultLine fault line
+      → IsRefusal bytes line

@@ -1,16 +1,14 @@
 -- the steps from the bytes of a file to an answer
-use Rattle.std.specs.Prelude.{◌≡◌, ℕ, List, ◌∷◌, [], codes, None}
+use Rattle.std.specs.Prelude.{◌≡◌, ℕ, List, None}
 use Rattle.hold_limits.specs.Problem.{Problem}
 use Rattle.hold_limits.specs.Placement.{IsBest}
 use Rattle.hold_limits.specs.Faults.{hold_fault, task_fault}
 use Rattle.problem_text.specs.TaskText.{Spells}
-use Rattle.problem_text.specs.declared.fault.TextFault.{TextFault}
-use Rattle.problem_text.specs.declared.fault.TextFault.TheVariants as text
 use Rattle.load_io.specs.Shelf.{Files}
 use Rattle.loadctl.specs.declared.status.Status.{Status}
 use Rattle.loadctl.specs.declared.status.Status.TheVariants.{Done, Usage, BadInput, NothingFits, OverBudget, ReadFault, WriteFault, NoMemory}
-use Rattle.loadctl.specs.Search.{MoreSoundThan, HasNoPlacement}
-use Rattle.loadctl.specs.AnswerText.{one_line, input_text, plan_text, none_text, budget_text, hold_fault_number, task_fault_number, IsRefusal}
+use Rattle.placer.specs.Search.{MoreViableThan, HasNoPlacement}
+use Rattle.loadctl.specs.AnswerText.{plan_text, none_text, budget_text, IsRefusal}
 use Rattle.loadctl.specs.Run.{IsPlan, IsNone, IsOverBudget, IsBadInput, IsUsage}
 
 -- the status as a number
@@ -30,19 +28,10 @@ IsOutcome t budget Done text = (path : List ℕ) × IsBest t path × (text ≡ p
 IsOutcome t budget Usage text = ⊥
 IsOutcome t budget BadInput text = ⊥
 IsOutcome t budget NothingFits text = HasNoPlacement t × (text ≡ none_text)
-IsOutcome t budget OverBudget text = MoreSoundThan t budget × (text ≡ budget_text budget)
+IsOutcome t budget OverBudget text = MoreViableThan t budget × (text ≡ budget_text budget)
 IsOutcome t budget ReadFault text = ⊥
 IsOutcome t budget WriteFault text = ⊥
 IsOutcome t budget NoMemory text = ⊥
-
--- the line for a fault of a text; want of memory has none
-abbrev pub IsFaultLine : TextFault → List ℕ → Type 0
-IsFaultLine (text.Line n) line = line ≡ input_text (codes "LINE") n
-IsFaultLine text.NoEnd line = line ≡ one_line (codes "INPUT" ∷ codes "END" ∷ [])
-IsFaultLine (text.Later n) line = line ≡ input_text (codes "LATER") n
-IsFaultLine (text.Hold fault) line = line ≡ input_text (codes "HOLD") (hold_fault_number fault)
-IsFaultLine (text.Task fault) line = line ≡ input_text (codes "TASK") (task_fault_number fault)
-IsFaultLine text.NoMemory line = ⊥
 
 -- the bytes spell this lawful task
 pub record SpellsLawful (bytes : List ℕ) (t : Problem) : Type 0 where

@@ -8,7 +8,7 @@ use Rattle.hold_limits.specs.Placement.{IsBest}
 use Rattle.hold_limits.specs.Faults.{hold_fault, task_fault}
 use Rattle.problem_text.specs.TaskText.{Spells}
 use Rattle.loadctl.specs.Words.{IsPlace, HasNoForm}
-use Rattle.loadctl.specs.Search.{MoreSoundThan, HasNoPlacement}
+use Rattle.placer.specs.Search.{MoreViableThan, HasNoPlacement}
 use Rattle.loadctl.specs.AnswerText.{longest_task, IsRefusal, plan_text, none_text, budget_text, usage_text}
 
 -- the words ask for a placement of the file of this name, and these are its bytes
@@ -43,12 +43,12 @@ pub record IsNone (words : List (List ℕ)) (files : Files) (text : List ℕ) : 
   pub none : HasNoPlacement t
   pub is : text ≡ none_text
 
--- the text names the budget, and the sound prefixes are more than it
+-- the text names the budget, and the viable prefixes are more than it
 pub record IsOverBudget (words : List (List ℕ)) (files : Files) (text : List ℕ) : Type 0 where
   pub t : Problem
   pub budget : ℕ
   pub asks : AsksToPlace words files t budget
-  pub more : MoreSoundThan t budget
+  pub more : MoreViableThan t budget
   pub is : text ≡ budget_text budget
 
 -- the text says why the file is refused
@@ -86,3 +86,7 @@ IsStatus n = IsTrue (list_any (λ s. s == n) (0 ∷ 2 ∷ 3 ∷ 4 ∷ 5 ∷ 6 �
 -- the statuses of a placement that was answered, and of want of memory
 abbrev pub IsAnswered : ℕ → Type 0
 IsAnswered n = IsTrue (list_any (λ s. s == n) (0 ∷ 4 ∷ 5 ∷ 9 ∷ []))
+
+-- the statuses of a file that is refused, and of want of memory
+abbrev pub IsRefusing : ℕ → Type 0
+IsRefusing n = IsTrue (list_any (λ s. s == n) (3 ∷ 9 ∷ []))

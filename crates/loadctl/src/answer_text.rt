@@ -4,8 +4,8 @@ ghost use Rattle.std.specs.Prelude.{◌≡◌, ◌++◌, ◌∷◌, [], ◌<◌,
 ghost use Rattle.mass_units.specs.Spelling.{number_text, index_text};
 ghost use Rattle.hold_limits.specs.BranchOrder.{ordered};
 ghost use Rattle.hold_limits.specs.Placement.{IsSound, placed};
-ghost use Rattle.problem_text.specs.TaskText.{line_of, text_of};
-ghost use Rattle.loadctl.specs.AnswerText.{one_line, name_at, place_line, place_lines, plan_text, none_text, budget_text, usage_text, input_text};
+ghost use Rattle.problem_text.specs.TaskText.{line_of, text_of, name_at};
+ghost use Rattle.loadctl.specs.AnswerText.{one_line, place_line, place_lines, plan_text, none_text, budget_text, usage_text, input_text};
 
 use desk_base::NoMemory;
 use hold_limits::{Hold, Path, Task, outcome};
@@ -65,7 +65,8 @@ fn push_index_line(
     word: &[u8],
     index: Ticks,
 ) -> Result<(), NoMemory>
-    ensures { OnOk result (text.new.items ≡ text.old.items ++ one_line (word.now ∷ index_text index.0 ∷ [])) }
+    ensures { OnOk result (text.new.items
+        ≡ text.old.items ++ one_line (word.now ∷ index_text index.0 ∷ [])) }
 {
     text.extend_from_slice(word)?;
     text.push(b' ')?;
@@ -76,7 +77,7 @@ fn push_index_line(
 
 /// The name of a position, and nothing where the number is no position's.
 fn name_of(hold: &Hold, number: u8) -> &[u8]
-    ensures { result.now ≡ name_at hold.now number }
+    ensures { result.now ≡ name_at hold.now.positions number }
 {
     match hold.positions().get(number as usize) {
         Some(position) => position.name.bytes(),
@@ -86,7 +87,8 @@ fn name_of(hold: &Hold, number: u8) -> &[u8]
 
 /// Appends `place ID NAME`.
 fn push_place_line(text: &mut Vec<u8>, id: &[u8], name: &[u8]) -> Result<(), NoMemory>
-    ensures { OnOk result (text.new.items ≡ text.old.items ++ one_line (codes "place" ∷ id.now ∷ name.now ∷ [])) }
+    ensures { OnOk result (text.new.items
+        ≡ text.old.items ++ one_line (codes "place" ∷ id.now ∷ name.now ∷ [])) }
 {
     text.extend_from_slice(b"place ")?;
     text.extend_from_slice(id)?;
@@ -99,7 +101,8 @@ fn push_place_line(text: &mut Vec<u8>, id: &[u8], name: &[u8]) -> Result<(), NoM
 /// Appends a line for each container of the path, in branch order.
 fn push_place_lines(text: &mut Vec<u8>, task: &Task, path: &[u8]) -> Result<(), NoMemory>
     requires { length path.now ≤ length task.now.items }
-    ensures { OnOk result (text.new.items ≡ text.old.items ++ text_of (place_lines task.now (placed task.now path.now))) }
+    ensures { OnOk result (text.new.items
+        ≡ text.old.items ++ text_of (place_lines task.now (placed task.now path.now))) }
 {
     for rank in 0..path.len() {
         let item = task.at_rank(rank);

@@ -1,15 +1,15 @@
 //! From the bytes of a task's file to the answer.
 
-ghost use Rattle.std.specs.Prelude.{◌≡◌, ◌≢◌, ◌≤◌, length, IfOk};
+ghost use Rattle.std.specs.Prelude.{◌≡◌, ◌≢◌, ◌≤◌, ℕ, List, length, IfOk};
 ghost use Rattle.hold_limits.specs.Problem.{Problem};
-ghost use Rattle.loadctl.specs.AnswerText.{longest_task, long_text, usage_text, hold_fault_number, task_fault_number};
-ghost use Rattle.loadctl.specs.Judging.{IsOutcome, IsJudgement, SpellsLawful, IsFaultLine};
+ghost use Rattle.loadctl.specs.AnswerText.{longest_task, long_text, usage_text, hold_fault_number, task_fault_number, IsFaultLine, IsRefusal};
+ghost use Rattle.loadctl.specs.Judging.{IsOutcome, IsJudgement, SpellsLawful};
 
 use crate::answer_text::{budget_line, input_line, plan_of, two_word_line, word_line};
-use crate::search::{Searched, search};
 use crate::status::Status;
 use desk_base::NoMemory;
 use hold_limits::{HoldFault, Task, TaskFault};
+use placer::{Plain, search};
 use problem_text::{TextFault, read_task};
 use std::alloc::Global;
 
@@ -57,7 +57,6 @@ fn line_of_fault(alloc: Global, fault: TextFault) -> Result<Vec<u8>, NoMemory>
     match fault {
         TextFault::Line(number) => input_line(alloc, b"LINE", number as u64),
         TextFault::NoEnd => two_word_line(alloc, b"INPUT", b"END"),
-        TextFault::Later(number) => input_line(alloc, b"LATER", number as u64),
         TextFault::Hold(fault) => input_line(alloc, b"HOLD", number_of_hold_fault(fault)),
         TextFault::Task(fault) => input_line(alloc, b"TASK", number_of_task_fault(fault)),
         TextFault::NoMemory => Err(NoMemory),
@@ -68,25 +67,26 @@ fn line_of_fault(alloc: Global, fault: TextFault) -> Result<Vec<u8>, NoMemory>
 fn outcome_of(alloc: Global, task: &Task, budget: u32) -> Result<Answer, NoMemory>
     ensures { IfOk result (λ answer. IsOutcome task.now budget answer.status answer.text.items) }
 {
-    match search(task, budget) {
-        Searched::Best(path) => Ok(Answer {
+    match search(alloc, task, budget)? {
+        Plain::Best(path) => Ok(Answer {
             status: Status::Done,
             text: plan_of(alloc, task, &path)?,
         }),
-        Searched::NoneFits => Ok(Answer {
+        Plain::NoneFits => Ok(Answer {
             status: Status::NothingFits,
             text: word_line(alloc, b"NONE")?,
         }),
-        Searched::OverBudget => Ok(Answer {
+        Plain::Budget(spent) => Ok(Answer {
             status: Status::OverBudget,
-            text: budget_line(alloc, budget)?,
+            text: budget_line(alloc, spent)?,
         }),
     }
 }
 
 /// The answer to a file whose bytes spell no lawful task.
 fn refusal_of(alloc: Global, fault: TextFault) -> Result<Answer, NoMemory>
-    ensures { IfOk result (λ answer. (answer.status ≡ Status.BadInput) × IsFaultLine fault answer.text.items) }
+    ensures { IfOk result (λ answer. (answer.status ≡ Status.BadInput)
+        × IsFaultLine fault answer.text.items) }
 {
     Ok(Answer {
         status: Status::BadInput,
@@ -97,8 +97,12 @@ fn refusal_of(alloc: Global, fault: TextFault) -> Result<Answer, NoMemory>
 /// The answer to the bytes of a task's file.
 pub fn judge(alloc: Global, bytes: &[u8], budget: u32) -> Result<Answer, NoMemory>
     requires { length bytes.now ≤ longest_task }
-    ensures judged { IfOk result (λ answer. IsJudgement bytes.now budget answer.status answer.text.items) }
-    ensures complete { (t : Problem) → SpellsLawful bytes.now t → IfOk result (λ answer. answer.status ≢ Status.BadInput) }
+    ensures judged { IfOk result
+        (λ answer. IsJudgement bytes.now budget answer.status answer.text.items) }
+    ensures complete { (t : Problem) → SpellsLawful bytes.now t
+        → IfOk result (λ answer. answer.status ≢ Status.BadInput) }
+    ensures refused { (line : List ℕ) → IsRefusal bytes.now line
+        → IfOk result (λ answer. answer.status ≡ Status.BadInput) }
 {
     match read_task(alloc, bytes) {
         Ok(task) => outcome_of(alloc, &task, budget),
@@ -108,7 +112,8 @@ pub fn judge(alloc: Global, bytes: &[u8], budget: u32) -> Result<Answer, NoMemor
 
 /// The answer to a file that is too long.
 pub fn too_long(alloc: Global) -> Result<Answer, NoMemory>
-    ensures { IfOk result (λ answer. (answer.status ≡ Status.BadInput) × (answer.text.items ≡ long_text)) }
+    ensures { IfOk result (λ answer. (answer.status ≡ Status.BadInput)
+        × (answer.text.items ≡ long_text)) }
 {
     Ok(Answer {
         status: Status::BadInput,
@@ -118,7 +123,8 @@ pub fn too_long(alloc: Global) -> Result<Answer, NoMemory>
 
 /// The answer to words in no form.
 pub fn usage(alloc: Global) -> Result<Answer, NoMemory>
-    ensures { IfOk result (λ answer. (answer.status ≡ Status.Usage) × (answer.text.items ≡ usage_text)) }
+    ensures { IfOk result (λ answer. (answer.status ≡ Status.Usage)
+        × (answer.text.items ≡ usage_text)) }
 {
     Ok(Answer {
         status: Status::Usage,

@@ -4,7 +4,6 @@
 mod answer_text;
 mod judging;
 mod program;
-mod search;
 mod status;
 mod words;
 

@@ -9,7 +9,7 @@ pub enum Status {
     BadInput,
     /// No placement is admissible.
     NothingFits,
-    /// There are more sound prefixes than the budget.
+    /// There are more viable prefixes than the budget.
     OverBudget,
     /// The file could not be read.
     ReadFault,

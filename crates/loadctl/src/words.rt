@@ -11,7 +11,7 @@ const USUAL_BUDGET: u32 = 20_000;
 
 const MOST_BUDGET: u32 = 50_000;
 
-/// What the words ask for: a placement of the task in a file, with a budget of sound prefixes.
+/// What the words ask for: a placement of the task in a file, with a budget of viable prefixes.
 #[derive(Clone, Copy, Debug)]
 pub struct Place<'a> {
     pub task: &'a str,
@@ -53,7 +53,8 @@ fn budget_of(word: &str) -> Option<u32>
 
 /// `place TASK`.
 fn plain_form<'a>(command: &str, task: &'a str) -> Option<Place<'a>>
-    ensures some { IfSome result (λ place. ArePlaceWords (command.now ∷ task.now ∷ []) place.task.now place.budget) }
+    ensures some { IfSome result
+        (λ place. ArePlaceWords (command.now ∷ task.now ∷ []) place.task.now place.budget) }
     ensures none { IfNone result (command.now ≡ codes "place" → ⊥) }
 {
     if !is_place(command) {
@@ -67,8 +68,10 @@ fn plain_form<'a>(command: &str, task: &'a str) -> Option<Place<'a>>
 
 /// `place TASK BUDGET`.
 fn limited_form<'a>(command: &str, task: &'a str, budget: &str) -> Option<Place<'a>>
-    ensures some { IfSome result (λ place. ArePlaceWords (command.now ∷ task.now ∷ budget.now ∷ []) place.task.now place.budget) }
-    ensures none { IfNone result ((n : ℕ) → 1 ≤ n → n ≤ 50000 → command.now ≡ codes "place" → budget.now ≡ number_text n → ⊥) }
+    ensures some { IfSome result
+        (λ place. ArePlaceWords (command.now ∷ task.now ∷ budget.now ∷ []) place.task.now place.budget) }
+    ensures none { IfNone result ((n : ℕ) → 1 ≤ n → n ≤ 50000 → command.now ≡ codes "place"
+        → budget.now ≡ number_text n → ⊥) }
 {
     if !is_place(command) {
         return None;
@@ -80,8 +83,10 @@ fn limited_form<'a>(command: &str, task: &'a str, budget: &str) -> Option<Place<
 }
 
 fn form_of(words: &[String]) -> Option<Place<'_>>
-    ensures some { IfSome result (λ place. ArePlaceWords (map string_bytes words.now) place.task.now place.budget) }
-    ensures none { IfNone result ((task : List ℕ) (budget : ℕ) → ArePlaceWords (map string_bytes words.now) task budget → ⊥) }
+    ensures some { IfSome result
+        (λ place. ArePlaceWords (map string_bytes words.now) place.task.now place.budget) }
+    ensures none { IfNone result ((task : List ℕ) (budget : ℕ)
+        → ArePlaceWords (map string_bytes words.now) task budget → ⊥) }
 {
     if words.len() == 2 {
         plain_form(words[0].as_str(), words[1].as_str())

@@ -45,7 +45,12 @@ window -100.00000 100.00000
 ideal 50.00000 50.00000
 ";
 
-const LATER: &str = "bulk 51 5 800
+const LIMITS: &str = "bulk 51 5 800
+exclude 11 12
+combined 1000 11 51
+";
+
+const UNKNOWN: &str = "exclude 11 43
 ";
 
 const PLAN: &str = "PLAN
@@ -101,18 +106,18 @@ fn run_of(
 fn the_worked_task_is_answered(rt: HostRuntime) -> Result<(), Fail> {
     let rows: [(&[&str], &[&str], u8, &str); 8] = [
         (&["place", "t"], &[POSITIONS, ITEMS, INDICES], 0, PLAN),
-        (&["place", "t", "17"], &[POSITIONS, ITEMS, INDICES], 0, PLAN),
+        (&["place", "t", "8"], &[POSITIONS, ITEMS, INDICES], 0, PLAN),
         (
-            &["place", "t", "17"],
+            &["place", "t", "8"],
             &[POSITIONS, OTHER_ITEMS, INDICES],
             0,
             PLAN,
         ),
         (
-            &["place", "t", "16"],
+            &["place", "t", "7"],
             &[POSITIONS, ITEMS, INDICES],
             5,
-            "BUDGET 16\n",
+            "BUDGET 7\n",
         ),
         (
             &["place", "t", "1"],
@@ -120,7 +125,7 @@ fn the_worked_task_is_answered(rt: HostRuntime) -> Result<(), Fail> {
             5,
             "BUDGET 1\n",
         ),
-        (&["place", "t", "17"], &[POSITIONS, INDICES], 0, EMPTY_PLAN),
+        (&["place", "t", "8"], &[POSITIONS, INDICES], 0, EMPTY_PLAN),
         (&["place", "t"], &[POSITIONS, ITEMS, NARROW], 4, "NONE\n"),
         (
             &["place", "t", "50000"],
@@ -139,11 +144,15 @@ fn the_worked_task_is_answered(rt: HostRuntime) -> Result<(), Fail> {
 
 #[test]
 fn a_wrong_file_is_refused_with_its_line(rt: HostRuntime) -> Result<(), Fail> {
-    let rows: [(&[&str], &str); 6] = [
+    let rows: [(&[&str], &str); 7] = [
         (&[POSITIONS, TWICE, INDICES], "INPUT TASK 2\n"),
         (&[POSITIONS, ITEMS, SHORT_BASE], "INPUT LINE 8\n"),
         (&[POSITIONS, ITEMS, CUT], "INPUT END\n"),
-        (&[POSITIONS, LATER, INDICES], "INPUT LATER 6\n"),
+        (&[POSITIONS, UNKNOWN, INDICES], "INPUT LINE 6\n"),
+        (
+            &[POSITIONS, LIMITS, "loose 11 5\n", INDICES],
+            "INPUT TASK 4\n",
+        ),
         (&["TASK 1\n", ITEMS, INDICES], "INPUT HOLD 1\n"),
         (&[POSITIONS, ITEMS, INDICES, "\n"], "INPUT LINE 12\n"),
     ];

@@ -4,8 +4,8 @@ use Rattle.std.specs.Prelude.{codes}
 use Rattle.hold_limits.specs.Layout.{Layout}
 use Rattle.hold_limits.specs.Placement.{Placed, placed}
 use Rattle.hold_limits.proofs.PlacedLemmas.{length-placed}
-use Rattle.problem_text.specs.TaskText.{text_of}
-use Rattle.loadctl.specs.AnswerText.{one_line, name_at, place_line, place_lines}
+use Rattle.problem_text.specs.TaskText.{text_of, name_at}
+use Rattle.loadctl.specs.AnswerText.{one_line, place_line, place_lines}
 use Rattle.loadctl.proofs.TextLemmas.{place_lines-more}
 use Rattle.loadctl.proofs.answer_text.push_place_lines.Goals as goal
 
@@ -16,9 +16,9 @@ loop-rank-preserved c =
     let rank = c.loop-rank.rank in
     let q = get_or path rank 0 in
     let item = c.at_rank-item.result.now in
-    let name = c.name_of.ensures ∙ ap (λ (h : Layout). name_at h q) c.hold.ensures.value in
+    let name = c.name_of.ensures ∙ ap (λ (h : Layout). name_at h.positions q) c.hold.ensures.value in
     let line : one_line (codes "place" ∷ c.bytes.result.now ∷ c.name_of.result.now ∷ []) ≡ text_of (place_line t.hold (item, q) ∷ []) =
-    ap₂ (λ a b. one_line (codes "place" ∷ a ∷ b ∷ [])) c.bytes.ensures name in
+    ap₂ (λ a b. one_line (codes "place" ∷ a ∷ b ∷ [])) c.bytes.ensures.value name in
     let more = place_lines-more t path rank item c.requires c.loop-rank-test.true c.at_rank-item.ensures.value in
     c.in_ok-push_place_line.ensures
     ∙ ap₂ (λ a b. a ++ b) c.loop-rank.invariant line

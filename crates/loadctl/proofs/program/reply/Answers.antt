@@ -9,6 +9,9 @@ use Rattle.loadctl.proofs.program.reply.Goals as goal
 pub returns-in-None-clause-complete : goal.returns-in-None-clause-complete
 returns-in-None-clause-complete g c files t budget there asks = absurd (c.in-None.ensures.none asks.asks.name budget asks.asks.form)
 
+pub returns-in-None-clause-refused : goal.returns-in-None-clause-refused
+returns-in-None-clause-refused g c files text there wrong = absurd (c.in-None.ensures.none wrong.asks.name wrong.budget wrong.asks.form)
+
 pub returns-in_ok-judge-in-Ok-clause-told : goal.returns-in_ok-judge-in-Ok-clause-told
 returns-in_ok-judge-in-Ok-clause-told g c =
     let words = words_of c.args.words.now in
