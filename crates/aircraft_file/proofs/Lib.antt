@@ -1,0 +1,6 @@
+pub mod IndexLemmas
+pub mod SpellingLemmas
+pub mod ItemLemmas
+pub mod DocumentLemmas
+pub mod RefusalLemmas
+pub mod AnswerLemmas

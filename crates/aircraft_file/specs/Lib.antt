@@ -1,0 +1,9 @@
+pub mod Spellings
+pub mod Document
+pub mod Sections
+pub mod Forms
+pub mod Figures
+pub mod Loading
+pub mod Craft
+pub mod Lawful
+pub mod Parts
