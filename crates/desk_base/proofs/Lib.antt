@@ -1,2 +1,4 @@
 pub mod Arrangements
 pub mod ListLemmas
+pub mod PairLemmas
+pub mod SignedSums

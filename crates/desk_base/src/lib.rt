@@ -1,11 +1,13 @@
-//! What every crate of the desk shares and no type owns: want of memory as an answer of its own, and
-//! the words in which contracts speak of faults, of answers and of lists.
+//! What every crate of the desk shares and no type owns: out of memory as an answer of its own, and the words in
+//! which contracts speak of faults and of lists.
 #![tactic(auto)]
 
 use std::alloc::{AllocError, AllocFailed};
+use thiserror::Error;
 
-/// Want of memory. A call that can answer it left its arguments as they were.
-#[derive(Clone, Copy, Debug, PartialEq, Eq)]
+/// Out of memory.
+#[derive(Clone, Copy, Debug, PartialEq, Eq, Error)]
+#[error("out of memory")]
 pub struct NoMemory;
 
 impl From<AllocError> for NoMemory {
