@@ -3,13 +3,19 @@ use Rattle.std.proofs.Common.{◌≡◌, suc, ◌-◌, ◌<◌, ◌≤◌, List,
 use Rattle.std.specs.Int.Signed.{≤ℤ_refl}
 use Rattle.std.proofs.lemmas.Int.{ints}
 use Rattle.std.proofs.Math.IntN.{*ℤ-zero, zero-*ℤ}
-use Rattle.std.proofs.lemmas.List.Elements.{All-nil, All-cons, All-head, All-tail, All-weaker}
+use Rattle.std.proofs.lemmas.List.Elements.{All-nil, All-cons, All-weaker}
 use Rattle.mass_units.specs.declared.line.Line.{Line}
 use Rattle.mass_units.specs.Line.{Spans, IsOnOrAft, IsOnOrForward}
-use Rattle.mass_units.proofs.ChainLemmas.{IsChain, chain_later}
+use Rattle.mass_units.specs.Polyline.{line_between}
+use Rattle.mass_units.proofs.ChainLemmas.{chain_later}
+use Rattle.mass_units.proofs.PolylineLemmas.{rising_head, rising_tail, IsRising-chain}
 use Rattle.envelope.specs.declared.corner.Corner.{Corner}
-use Rattle.envelope.specs.Edges.{edge, edges, IsRising, IsOnOrAftOf, IsOnOrForwardOf}
+use Rattle.envelope.specs.Edges.{point_of, edges, IsRising, IsOnOrAftOf, IsOnOrForwardOf}
 use Rattle.envelope.specs.Outline.{Outline, IsEnvelope, AreInside}
+
+-- the edge from one corner to the next
+abbrev edge : Corner → Corner → Line
+edge a b = line_between (point_of a) (point_of b)
 
 -- the corner lies on the edge
 abbrev IsOn : Line → Corner → Type 0
@@ -28,25 +34,12 @@ on_start a b =
     let right : (a.index.0 -ℤ a.index.0) *ℤ pos (b.mass.0 - a.mass.0) ≡ pos 0 = ap (λ z. z *ℤ pos (b.mass.0 - a.mass.0)) level ∙ zero-*ℤ (pos (b.mass.0 - a.mass.0)) in
     (omega (arith, ints), omega (arith, ints))
 
-rising_head : (a b : Corner) (rest : List Corner) → IsRising (a ∷ b ∷ rest) → a.mass.0 < b.mass.0
-rising_head a b rest rising = All-head (λ e. e.from.0 < e.to.0) (edge a b) (edges (b ∷ rest)) rising
-
-rising_tail : (a b : Corner) (rest : List Corner) → IsRising (a ∷ b ∷ rest) → IsRising (b ∷ rest)
-rising_tail a b rest rising = All-tail (λ e. e.from.0 < e.to.0) (edge a b) (edges (b ∷ rest)) rising
-
-chain_of : (corners : List Corner) → IsRising corners → IsChain (edges corners)
-chain_of [] rising = tt
-chain_of (a ∷ []) rising = tt
-chain_of (a ∷ b ∷ []) rising = rising_head a b [] rising
-chain_of (a ∷ b ∷ c ∷ rest) rising =
-    (rising_head a b (c ∷ rest) rising, (refl, (refl, chain_of (b ∷ c ∷ rest) (rising_tail a b (c ∷ rest) rising))))
-
 above : (a : Corner) (rest : List Corner) → IsRising (a ∷ rest) → All (λ c. a.mass.0 < c.mass.0) rest
 above a [] rising = All-nil (λ c. a.mass.0 < c.mass.0)
 above a (b ∷ rest) rising =
-    let first = rising_head a b rest rising in
+    let first = rising_head point_of a b rest rising in
     All-cons (λ c. a.mass.0 < c.mass.0) b rest first
-    (All-weaker (λ c. b.mass.0 < c.mass.0) (λ c. a.mass.0 < c.mass.0) (λ c h. omega arith) rest (above b rest (rising_tail a b rest rising)))
+    (All-weaker (λ c. b.mass.0 < c.mass.0) (λ c. a.mass.0 < c.mass.0) (λ c h. omega arith) rest (above b rest (rising_tail point_of a b rest rising)))
 
 -- each corner lies on each edge that spans its mass
 own_edges : (corners : List Corner) → IsRising corners → All (λ c. All (λ e. Spans e c.mass.0 → IsOn e c) (edges corners)) corners
@@ -54,9 +47,9 @@ own_edges [] rising = All-nil (λ c. All (λ e. Spans e c.mass.0 → IsOn e c) [
 own_edges (a ∷ []) rising =
     All-cons (λ c. All (λ e. Spans e c.mass.0 → IsOn e c) []) a [] (All-nil (λ e. Spans e a.mass.0 → IsOn e a)) (All-nil (λ c. All (λ e. Spans e c.mass.0 → IsOn e c) []))
 own_edges (a ∷ b ∷ rest) rising =
-    let first = rising_head a b rest rising in
-    let later = rising_tail a b rest rising in
-    let apart = chain_later (edge a b) (edges (b ∷ rest)) (chain_of (a ∷ b ∷ rest) rising) in
+    let first = rising_head point_of a b rest rising in
+    let later = rising_tail point_of a b rest rising in
+    let apart = chain_later (edge a b) (edges (b ∷ rest)) (IsRising-chain point_of (a ∷ b ∷ rest) rising) in
     let at_head : All (λ e. Spans e a.mass.0 → IsOn e a) (edges (a ∷ b ∷ rest)) =
     All-cons (λ e. Spans e a.mass.0 → IsOn e a) (edge a b) (edges (b ∷ rest)) (λ s. on_start a b)
     (All-weaker (λ e. b.mass.0 ≤ e.from.0) (λ e. Spans e a.mass.0 → IsOn e a) (λ e h s. absurd (omega (arith, s))) (edges (b ∷ rest)) apart) in
@@ -76,12 +69,12 @@ Any-here P x xs holds = (0, x, omega arith, refl, holds)
 -- some edge spans the mass of each corner
 own_spanned : (a b : Corner) (rest : List Corner) → IsRising (a ∷ b ∷ rest) → All (λ c. Any (λ e. Spans e c.mass.0) (edges (a ∷ b ∷ rest))) (a ∷ b ∷ rest)
 own_spanned a b [] rising =
-    let first = rising_head a b [] rising in
+    let first = rising_head point_of a b [] rising in
     All-cons (λ c. Any (λ e. Spans e c.mass.0) (edges (a ∷ b ∷ []))) a (b ∷ []) (Any-here (λ e. Spans e a.mass.0) (edge a b) [] (omega arith, omega arith))
     (All-cons (λ c. Any (λ e. Spans e c.mass.0) (edges (a ∷ b ∷ []))) b [] (Any-here (λ e. Spans e b.mass.0) (edge a b) [] (omega arith, omega arith)) (All-nil (λ c. Any (λ e. Spans e c.mass.0) (edges (a ∷ b ∷ [])))))
 own_spanned a b (c ∷ rest) rising =
-    let first = rising_head a b (c ∷ rest) rising in
-    let others = own_spanned b c rest (rising_tail a b (c ∷ rest) rising) in
+    let first = rising_head point_of a b (c ∷ rest) rising in
+    let others = own_spanned b c rest (rising_tail point_of a b (c ∷ rest) rising) in
     All-cons (λ d. Any (λ e. Spans e d.mass.0) (edges (a ∷ b ∷ c ∷ rest))) a (b ∷ c ∷ rest) (Any-here (λ e. Spans e a.mass.0) (edge a b) (edges (b ∷ c ∷ rest)) (omega arith, omega arith))
     (λ k d l. let f : Corner = get_or (b ∷ c ∷ rest) k d in Any-there (λ e. Spans e f.mass.0) (edge a b) (edges (b ∷ c ∷ rest)) (others k d l))
 

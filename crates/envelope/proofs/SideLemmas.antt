@@ -1,17 +1,13 @@
--- The tick next to a side: a bound over the edges that were passed.
-use Rattle.std.proofs.Common.{◌≡◌, ℕ, ◌+◌, ◌<◌, ◌≤◌, ◌↔◌, List, [], ◌∷◌, ◌++◌, length, get_or, refl, sym, subst, ◌∙◌, arith, ℤ, All, Any, Option, Some, None, IfSome, IfNone, MatchOption, Bool, position, min, inl, inr, take, false, nat_le, true, IsTrue, rules}
-use Rattle.std.specs.List.{position_or_len}
-use Rattle.std.proofs.lemmas.List.Sums.{fails_before_first}
-use Rattle.std.proofs.lemmas.Bool.Decides.{nat_tests}
+-- The tick next to a side: a bound over the edges that were visited.
+use Rattle.std.proofs.Common.{◌≡◌, ℕ, ◌+◌, ◌<◌, ◌≤◌, ◌↔◌, List, [], ◌∷◌, ◌++◌, length, get_or, refl, subst, ◌∙◌, arith, ℤ, All, Any, Option, Some, None, IfSome, IfNone, MatchOption, Bool, min, inl, inr, take, false, true, IsTrue, rules}
 use Rattle.std.specs.Option.{option_map_or}
 use Rattle.std.proofs.lemmas.Bool.{cases_lt}
 use Rattle.mass_units.specs.declared.Kg.{Kg}
 use Rattle.std.proofs.lemmas.List.{get_or_append_left, get_or_push, length_push, take_more}
 use Rattle.std.proofs.lemmas.List.Elements.{All-nil, All-push, All-weaker}
-use Rattle.std.proofs.lemmas.List.Quantifiers.{Any-push, position-Some}
+use Rattle.std.proofs.lemmas.List.Quantifiers.{Any-push}
 use Rattle.mass_units.specs.declared.Ticks.{Ticks}
 use Rattle.envelope.specs.declared.corner.Corner.{Corner}
-use Rattle.envelope.specs.Edges.{edges, IsRising}
 use Rattle.mass_units.specs.declared.line.Line.{Line}
 
 -- what holds of each element of a longer list
@@ -69,24 +65,7 @@ pub IsBound-none : (R : ℤ → ℤ → Type 0) (S : Line → Type 0) (P : Line 
 IsBound-none R S P xs None bound = λ z h. let found = Any-all S (λ e. ¬ (S e)) xs h.0 bound.spanned in found.2 found.1
 IsBound-none R S P xs (Some t) bound = tt
 
-pub length-edges : (corners : List Corner) → length (edges corners) ≤ length corners
-length-edges [] = omega arith
-length-edges (a ∷ []) = omega arith
-length-edges (a ∷ b ∷ corners) = omega (arith, length-edges (b ∷ corners))
-
-none_passes : {X : Type 0} (p : X → Bool) (xs : List X) → position p xs ≡ None → (k : ℕ) (d : X) → k < length xs → p (get_or xs k d) ≡ false
-none_passes p xs e k d l =
-    elim (cases_lt (position_or_len p xs) (length xs)) [
-      | inl lt ↦ let some : position p xs ≡ Some (position_or_len p xs) = grind (arith, nat_tests) in let never : ◌≡◌ {A = Option ℕ} None (Some (position_or_len p xs)) = sym e ∙ some in cc
-      | inr ge ↦ fails_before_first p xs k d (omega arith)
-    ]
-
-pub position-bound : {X : Type 0} (p : X → Bool) (xs : List X) (r : Option ℕ) (most : ℕ) → r ≡ position p xs → length xs ≤ most → IfSome r (λ at. at < most)
-position-bound p xs None most e short = tt
-position-bound p [] (Some at) most e short = let never : ◌≡◌ {A = Option ℕ} (Some at) None = e in cc
-position-bound p (x ∷ xs) (Some at) most e short = omega (arith, (position-Some p (x ∷ xs) at x (sym e)).0)
-
--- what a test's answer tells
+-- what the result of a test says
 pub holds_from_true : {P : Type 0} (b : Bool) → (IsTrue b ↔ P) → b ≡ true → P
 holds_from_true b test e = test.0 (rw e (search rules))
 
@@ -134,13 +113,3 @@ FirstOutside-skip_at Q xs i d first within so_far holds =
 pub FirstOutside-take_at : (Q : Corner → Type 0) (xs : List Corner) (i : ℕ) (d : Corner) (first : Option Kg) (next : Kg) → i < length xs → FirstOutside Q (take i xs) first → ¬ (Q (get_or xs i d)) → next.0 ≡ min (get_or xs i d).mass.0 (option_map_or (λ m. m.0) first (get_or xs i d).mass.0) → FirstOutside Q (take (i + 1) xs) (Some next)
 FirstOutside-take_at Q xs i d first next within so_far out is =
     rw (take_more xs i d within) (FirstOutside-take Q (take i xs) (get_or xs i d) first next so_far out is)
-
--- ---- corners that rise
-
-not_above : (a b : ℕ) → nat_le b a ≡ false → a < b
-not_above a b e = grind (arith, nat_tests)
-
-pub IsRising-from_none : (corners : List Corner) (r : Option ℕ) → r ≡ position (λ edge. nat_le edge.to.0 edge.from.0) (edges corners) → IfNone r (IsRising corners)
-IsRising-from_none corners (Some at) e = tt
-IsRising-from_none corners None e = λ k d l.
-    not_above _ _ (none_passes (λ (edge : Line). nat_le edge.to.0 edge.from.0) (edges corners) (sym e) k d l)

@@ -1,27 +1,27 @@
 -- One side of an envelope: the straight edges between its neighbouring corners.
-use Rattle.std.specs.Prelude.{ℕ, ◌+◌, ◌<◌, List, [], ◌∷◌, Option, ℤ, All, Any, nat_le, position}
-use Rattle.std.specs.Option.{option_map}
+use Rattle.std.specs.Prelude.{ℕ, List, Option, ℤ, All, Any}
 use Rattle.mass_units.specs.declared.line.Line.{Line}
+use Rattle.mass_units.specs.declared.line.Point.{Point}
+use Rattle.mass_units.specs.Polyline as polyline
+use Rattle.mass_units.specs.Polyline.{lines}
 use Rattle.mass_units.specs.Line.{Spans, IsOnOrAft, IsOnOrForward}
 use Rattle.envelope.specs.declared.corner.Corner.{Corner}
 
--- the edge from one corner to the next
-abbrev pub edge : Corner → Corner → Line
-edge a b = record { from = a.mass; at_from = a.index; to = b.mass; at_to = b.index }
+-- where the corner stands
+abbrev pub point_of : Corner → Point
+point_of corner = record { mass = corner.mass; index = corner.index }
 
 -- the edges between neighbouring corners
 abbrev pub edges : List Corner → List Line
-edges [] = []
-edges (a ∷ []) = []
-edges (a ∷ b ∷ corners) = edge a b ∷ edges (b ∷ corners)
+edges corners = lines point_of corners
 
 -- each corner has a greater mass than the one before it
 abbrev pub IsRising : List Corner → Type 0
-IsRising corners = All (λ edge. edge.from.0 < edge.to.0) (edges corners)
+IsRising corners = polyline.IsRising point_of corners
 
 -- the place of the first corner whose mass is not greater than that of the one before it
 abbrev pub first_fall : List Corner → Option ℕ
-first_fall corners = option_map (λ before. before + 1) (position (λ edge. nat_le edge.to.0 edge.from.0) (edges corners))
+first_fall corners = polyline.first_fall point_of corners
 
 -- some edge spans the mass, and on each that does the index lies on the edge or aft of it
 unfoldable pub IsOnOrAftOf : List Corner → ℕ → ℤ → Type 0

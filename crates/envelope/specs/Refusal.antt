@@ -1,4 +1,4 @@
--- Why two lists of corners are no envelope: the first reason, in the order of the faults.
+-- Why two lists of corners do not make an envelope: the first reason, in the order of the faults.
 use Rattle.std.specs.Prelude.{◌≡◌, ℕ, ◌≤◌, ◌⊎◌, Some}
 use Rattle.envelope.specs.declared.EnvFault.{EnvFault}
 use Rattle.envelope.specs.declared.EnvFault.TheVariants.{TooFewCorners, NotRising, DifferentSpan, Crossed}

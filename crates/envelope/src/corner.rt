@@ -1,8 +1,6 @@
-//! The corners of a side of an envelope, and the edges between them.
+//! The corners of a side of an envelope.
 
-ghost use Rattle.std.specs.Prelude.{◌≡◌};
-
-use mass_units::{Kg, Line, Ticks};
+use mass_units::{Kg, Point, Ticks, ToPoint};
 
 /// A corner of an envelope: where its side bends, or begins, or ends.
 #[derive(Clone, Copy, Debug, PartialEq, Eq)]
@@ -11,42 +9,15 @@ pub struct Corner {
     pub index: Ticks,
 }
 
-/// The edges between neighbouring corners, from the first corner on.
-#[derive(Drop)]
-pub struct Edges<'a> {
-    corners: &'a [Corner],
-}
+impl ToPoint for Corner {
+    ghost use Rattle.envelope.specs.Edges.{point_of};
 
-impl<'a> Edges<'a> {
-    pub fn of(corners: &'a [Corner]) -> Edges<'a>
-        ensures { result.corners.now ≡ corners.now }
-    {
-        Edges { corners }
-    }
-}
+    ghost point = { point_of };
 
-impl Iterator for Edges<'_> {
-    ghost use Rattle.std.specs.Iterator.{YieldsFirst, item_count};
-    ghost use Rattle.envelope.specs.Edges.{edges};
-
-    type Item = Line;
-
-    ghost next_gives = { YieldsFirst (λ s. edges s.corners.now) };
-
-    ghost remaining = { item_count (λ s. edges s.corners.now) };
-
-    fn next(&mut self) -> Option<Line> {
-        let corners = self.corners;
-        let [start, rest @ ..] = corners else {
-            return None;
-        };
-        let end = rest.first()?;
-        self.corners = rest;
-        Some(Line {
-            from: start.mass,
-            at_from: start.index,
-            to: end.mass,
-            at_to: end.index,
-        })
+    fn to_point(&self) -> Point {
+        Point {
+            mass: self.mass,
+            index: self.index,
+        }
     }
 }

@@ -9,11 +9,11 @@ mod corner;
 mod side;
 
 pub use corner::Corner;
-use mass_units::{Kg, Ticks};
+use mass_units::{Kg, Ticks, first_fall};
 use std::marker::Model;
 use thiserror::Error;
 
-/// Why two lists of corners are no envelope.
+/// Why two lists of corners do not make an envelope.
 #[derive(Clone, Copy, Debug, PartialEq, Eq, Error)]
 pub enum EnvFault {
     /// A side has fewer than 2 corners, or more than 64.
@@ -63,10 +63,10 @@ impl Envelope {
         if !has_corners(&forward) || !has_corners(&aft) {
             return Err(EnvFault::TooFewCorners);
         }
-        if let Some(at) = side::first_fall(&forward) {
+        if let Some(at) = first_fall(&forward) {
             return Err(EnvFault::NotRising(at));
         }
-        if let Some(at) = side::first_fall(&aft) {
+        if let Some(at) = first_fall(&aft) {
             return Err(EnvFault::NotRising(at));
         }
         if !same_span(&forward, &aft) {
@@ -97,7 +97,7 @@ impl Envelope {
     }
 
     /// True where the envelope allows the index at that mass. Its edges and corners are inside. Outside
-    /// its span of masses nothing is.
+    /// its span of masses nothing is inside.
     pub fn inside(&self, mass: Kg, index: Ticks) -> bool
         ensures { IsTrue result ↔ IsInside self.now mass.0 index.0 }
     {

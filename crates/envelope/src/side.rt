@@ -1,39 +1,21 @@
 //! One side of an envelope: where an index lies of it, and the ticks next to it.
 
-ghost use Rattle.std.specs.Prelude.{◌≡◌, ℕ, ◌<◌, ◌≤◌, ◌↔◌, ℤ, ◌≤ℤ◌, All, Any, IsTrue, IfSome, IfNone, length, nat_le, position, min};
+ghost use Rattle.std.specs.Prelude.{◌≡◌, ℕ, ◌≤◌, ◌↔◌, ℤ, ◌≤ℤ◌, All, Any, IsTrue, IfSome, IfNone, min};
 ghost use Rattle.mass_units.specs.Line.{Spans, IsOnOrAft, IsOnOrForward};
 ghost use Rattle.std.specs.Option.{option_map_or};
 ghost use Rattle.envelope.specs.Outline.{CrossesAt, IsApart};
-ghost use Rattle.envelope.specs.Edges.{edges, first_fall, IsRising, IsOnOrAftOf, IsOnOrForwardOf};
+ghost use Rattle.envelope.specs.Edges.{edges, IsRising, IsOnOrAftOf, IsOnOrForwardOf};
 
-use crate::corner::{Corner, Edges};
-use mass_units::{Kg, Line, Ticks};
-
-/// The place of the first corner whose mass is not greater than that of the one before it.
-pub fn first_fall(corners: &[Corner]) -> Option<usize>
-    requires { length corners.now ≤ 64 }
-    ensures place { result ≡ first_fall corners.now }
-    ensures rising { IfNone result (IsRising corners.now) }
-{
-    let before = first_falling_edge(corners)?;
-    Some(before + 1)
-}
-
-fn first_falling_edge(corners: &[Corner]) -> Option<usize>
-    requires { length corners.now ≤ 64 }
-    ensures place { result ≡ position (λ edge. nat_le edge.to.0 edge.from.0) (edges corners.now) }
-    ensures bound { IfSome result (λ at. at < 64) }
-    ensures rising { IfNone result (IsRising corners.now) }
-{
-    Edges::of(corners).position(|edge| edge.to.0 <= edge.from.0)
-}
+use crate::Corner;
+use mass_units::{Kg, Line, Lines, Ticks};
 
 /// True where the index lies on the side at that mass, or aft of it.
 #[tactic(auto, unfolding(crate::specs::Edges::IsOnOrAftOf))]
 pub fn is_on_or_aft(corners: &[Corner], mass: Kg, index: Ticks) -> bool
     ensures { IsTrue result ↔ IsOnOrAftOf corners.now mass.0 index.0 }
 {
-    spans(corners, mass) && Edges::of(corners).all(|edge| is_aft_where_spanned(edge, mass, index))
+    spans(corners, mass)
+        && Lines::between(corners).all(|edge| is_aft_where_spanned(edge, mass, index))
 }
 
 /// True where the index lies on the side at that mass, or forward of it.
@@ -42,7 +24,7 @@ pub fn is_on_or_forward(corners: &[Corner], mass: Kg, index: Ticks) -> bool
     ensures { IsTrue result ↔ IsOnOrForwardOf corners.now mass.0 index.0 }
 {
     spans(corners, mass)
-        && Edges::of(corners).all(|edge| is_forward_where_spanned(edge, mass, index))
+        && Lines::between(corners).all(|edge| is_forward_where_spanned(edge, mass, index))
 }
 
 /// The foremost tick that is not forward of the side at that mass. None where no edge spans the mass.
@@ -53,9 +35,9 @@ pub fn foremost(corners: &[Corner], mass: Kg) -> Option<Ticks>
     ensures none { IfNone result ((z : ℤ) → ¬ (IsOnOrAftOf corners.now mass.0 z)) }
 {
     let mut foremost: Option<Ticks> = None;
-    for edge in Edges::of(corners) {
+    for edge in Lines::between(corners) {
         if edge.spans(mass) {
-            foremost = Some(aftmore(foremost, edge.ceil_at(mass)));
+            foremost = Some(greater_index(foremost, edge.ceil_at(mass)));
         }
     }
     foremost
@@ -69,9 +51,9 @@ pub fn aftmost(corners: &[Corner], mass: Kg) -> Option<Ticks>
     ensures none { IfNone result ((z : ℤ) → ¬ (IsOnOrForwardOf corners.now mass.0 z)) }
 {
     let mut aftmost: Option<Ticks> = None;
-    for edge in Edges::of(corners) {
+    for edge in Lines::between(corners) {
         if edge.spans(mass) {
-            aftmost = Some(foremore(aftmost, edge.floor_at(mass)));
+            aftmost = Some(lesser_index(aftmost, edge.floor_at(mass)));
         }
     }
     aftmost
@@ -105,7 +87,7 @@ fn first_behind(corners: &[Corner], aft: &[Corner]) -> Option<Kg>
     let mut first: Option<Kg> = None;
     for corner in corners {
         if !is_on_or_forward(aft, corner.mass, corner.index) {
-            first = Some(lesser(first, corner.mass));
+            first = Some(lesser_mass(first, corner.mass));
         }
     }
     first
@@ -123,14 +105,14 @@ fn first_before(corners: &[Corner], forward: &[Corner]) -> Option<Kg>
     let mut first: Option<Kg> = None;
     for corner in corners {
         if !is_on_or_aft(forward, corner.mass, corner.index) {
-            first = Some(lesser(first, corner.mass));
+            first = Some(lesser_mass(first, corner.mass));
         }
     }
     first
 }
 
 /// The lesser of both masses.
-fn lesser(other: Option<Kg>, mass: Kg) -> Kg
+fn lesser_mass(other: Option<Kg>, mass: Kg) -> Kg
     ensures { result.0 ≡ min mass.0 (option_map_or (λ m. m.0) other mass.0) }
 {
     match other {
@@ -142,7 +124,7 @@ fn lesser(other: Option<Kg>, mass: Kg) -> Kg
 fn spans(corners: &[Corner], mass: Kg) -> bool
     ensures { IsTrue result ↔ Any (λ edge. Spans edge mass.0) (edges corners.now) }
 {
-    Edges::of(corners).any(|edge| edge.spans(mass))
+    Lines::between(corners).any(|edge| edge.spans(mass))
 }
 
 fn is_aft_where_spanned(edge: Line, mass: Kg, index: Ticks) -> bool
@@ -158,7 +140,7 @@ fn is_forward_where_spanned(edge: Line, mass: Kg, index: Ticks) -> bool
 }
 
 /// The greater of both indices.
-fn aftmore(other: Option<Ticks>, index: Ticks) -> Ticks
+fn greater_index(other: Option<Ticks>, index: Ticks) -> Ticks
     ensures { (z : ℤ) → (result.0 ≤ℤ z) ↔ ((index.0 ≤ℤ z) × IfSome other (λ t. t.0 ≤ℤ z)) }
 {
     match other {
@@ -168,7 +150,7 @@ fn aftmore(other: Option<Ticks>, index: Ticks) -> Ticks
 }
 
 /// The lesser of both indices.
-fn foremore(other: Option<Ticks>, index: Ticks) -> Ticks
+fn lesser_index(other: Option<Ticks>, index: Ticks) -> Ticks
     ensures { (z : ℤ) → (z ≤ℤ result.0) ↔ ((z ≤ℤ index.0) × IfSome other (λ t. z ≤ℤ t.0)) }
 {
     match other {

@@ -1,69 +1,27 @@
 -- Rows of a fuel table: the lines between them follow one another, and span from the first row to the last.
-use Rattle.std.proofs.Common.{◌≡◌, ℕ, ◌<◌, ◌≤◌, ◌↔◌, inl, inr, List, [], ◌∷◌, ◌++◌, length, get_or, refl, sym, ◌∙◌, arith, All, Any, Option, Some, None, IfSome, IfNone, Bool, false, nat_le, position, ◌≢◌, ℤ, IsNone, rules, length-append}
+use Rattle.std.proofs.Common.{◌≡◌, ℕ, ◌<◌, ◌≤◌, ◌↔◌, inl, inr, List, [], ◌∷◌, ◌++◌, length, get_or, refl, arith, All, Any, Option, Some, None, IfSome, IfNone, ◌≢◌, ℤ, IsNone, rules, length-append}
 use Rattle.std.proofs.lemmas.List.{get_or_at}
 use Rattle.mass_units.specs.declared.Ticks.{Ticks}
-use Rattle.std.specs.List.{position_or_len}
 use Rattle.std.proofs.lemmas.Bool.{cases_lt}
-use Rattle.std.proofs.lemmas.Bool.Decides.{nat_tests}
-use Rattle.std.proofs.lemmas.List.Sums.{fails_before_first}
-use Rattle.std.proofs.lemmas.List.Quantifiers.{position-Some}
 use Rattle.std.proofs.lemmas.List.Elements.{All-nil, All-cons, All-head, All-tail}
 use Rattle.mass_units.specs.declared.line.Line.{Line}
 use Rattle.mass_units.specs.Line.{Spans, IsFloor}
-use Rattle.mass_units.proofs.ChainLemmas.{IsChain}
+use Rattle.mass_units.specs.Polyline.{line_between}
+use Rattle.mass_units.proofs.PolylineLemmas.{rising_head, rising_tail}
 use Rattle.fuel_table.specs.declared.row.FuelRow.{FuelRow}
-use Rattle.fuel_table.specs.Rows.{line, lines, IsRising, IsOutside, IsFuelIndex}
-
--- ---- the place of the first fall
-
-pub length-lines : (rows : List FuelRow) → length (lines rows) ≤ length rows
-length-lines [] = omega arith
-length-lines (a ∷ []) = omega arith
-length-lines (a ∷ b ∷ rows) = omega (arith, length-lines (b ∷ rows))
-
-none_passes : {X : Type 0} (p : X → Bool) (xs : List X) → position p xs ≡ None → (k : ℕ) (d : X) → k < length xs → p (get_or xs k d) ≡ false
-none_passes p xs e k d l =
-    elim (cases_lt (position_or_len p xs) (length xs)) [
-      | inl lt ↦ let some : position p xs ≡ Some (position_or_len p xs) = grind (arith, nat_tests) in let never : ◌≡◌ {A = Option ℕ} None (Some (position_or_len p xs)) = sym e ∙ some in cc
-      | inr ge ↦ fails_before_first p xs k d (omega arith)
-    ]
-
-pub position-bound : {X : Type 0} (p : X → Bool) (xs : List X) (r : Option ℕ) (most : ℕ) → r ≡ position p xs → length xs ≤ most → IfSome r (λ at. at < most)
-position-bound p xs None most e short = tt
-position-bound p [] (Some at) most e short = let never : ◌≡◌ {A = Option ℕ} (Some at) None = e in cc
-position-bound p (x ∷ xs) (Some at) most e short = omega (arith, (position-Some p (x ∷ xs) at x (sym e)).0)
-
-not_above : (a b : ℕ) → nat_le b a ≡ false → a < b
-not_above a b e = grind (arith, nat_tests)
-
-pub IsRising-from_none : (rows : List FuelRow) (r : Option ℕ) → r ≡ position (λ line. nat_le line.to.0 line.from.0) (lines rows) → IfNone r (IsRising rows)
-IsRising-from_none rows (Some at) e = tt
-IsRising-from_none rows None e = λ k d l.
-    not_above _ _ (none_passes (λ (line : Line). nat_le line.to.0 line.from.0) (lines rows) (sym e) k d l)
+use Rattle.fuel_table.specs.Rows.{point_of, lines, IsRising, IsOutside, IsFuelIndex}
 
 -- ---- rising rows
 
-rises : Line → Type 0
-rises l = l.from.0 < l.to.0
-
-rising_head : (a b : FuelRow) (rows : List FuelRow) → IsRising (a ∷ b ∷ rows) → a.fuel.0 < b.fuel.0
-rising_head a b rows rising = All-head (λ l. l.from.0 < l.to.0) (line a b) (lines (b ∷ rows)) rising
-
-rising_tail : (a b : FuelRow) (rows : List FuelRow) → IsRising (a ∷ b ∷ rows) → IsRising (b ∷ rows)
-rising_tail a b rows rising = All-tail (λ l. l.from.0 < l.to.0) (line a b) (lines (b ∷ rows)) rising
-
-pub chain_of : (rows : List FuelRow) → IsRising rows → IsChain (lines rows)
-chain_of [] rising = tt
-chain_of (a ∷ []) rising = tt
-chain_of (a ∷ b ∷ []) rising = rising_head a b [] rising
-chain_of (a ∷ b ∷ c ∷ rows) rising =
-    (rising_head a b (c ∷ rows) rising, (refl, (refl, chain_of (b ∷ c ∷ rows) (rising_tail a b (c ∷ rows) rising))))
+-- the line from one row to the next
+abbrev line : FuelRow → FuelRow → Line
+line a b = line_between (point_of a) (point_of b)
 
 -- a fuel below the first row is below each
 below_each : (a : FuelRow) (rows : List FuelRow) (fuel : ℕ) → IsRising (a ∷ rows) → fuel < a.fuel.0 → All (λ r. fuel < r.fuel.0) (a ∷ rows)
 below_each a [] fuel rising below = All-cons (λ r. fuel < r.fuel.0) a [] below (All-nil (λ r. fuel < r.fuel.0))
 below_each a (b ∷ rows) fuel rising below =
-    All-cons (λ r. fuel < r.fuel.0) a (b ∷ rows) below (below_each b rows fuel (rising_tail a b rows rising) (omega (arith, rising_head a b rows rising)))
+    All-cons (λ r. fuel < r.fuel.0) a (b ∷ rows) below (below_each b rows fuel (rising_tail point_of a b rows rising) (omega (arith, rising_head point_of a b rows rising)))
 
 past : (a b : FuelRow) (fuel : ℕ) → ¬ (Spans (line a b) fuel) → a.fuel.0 ≤ fuel → b.fuel.0 < fuel
 past a b fuel out above =
@@ -76,7 +34,7 @@ above_each a (b ∷ rows) fuel rising above apart =
     let out = All-head (λ l. ¬ (Spans l fuel)) (line a b) (lines (b ∷ rows)) apart in
     let later : b.fuel.0 < fuel = past a b fuel out (omega arith) in
     All-cons (λ r. r.fuel.0 < fuel) a (b ∷ rows) above
-    (above_each b rows fuel (rising_tail a b rows rising) later (All-tail (λ l. ¬ (Spans l fuel)) (line a b) (lines (b ∷ rows)) apart))
+    (above_each b rows fuel (rising_tail point_of a b rows rising) later (All-tail (λ l. ¬ (Spans l fuel)) (line a b) (lines (b ∷ rows)) apart))
 
 -- two rows or more, and no line that spans the fuel
 pub outside_from_none : (a b : FuelRow) (rows : List FuelRow) (fuel : ℕ) → IsRising (a ∷ b ∷ rows) → All (λ l. ¬ (Spans l fuel)) (lines (a ∷ b ∷ rows)) → IsOutside (a ∷ b ∷ rows) fuel
@@ -84,7 +42,7 @@ outside_from_none a b rows fuel rising apart =
     elim (cases_lt fuel a.fuel.0) [
       | inl lt ↦ inl (below_each a (b ∷ rows) fuel rising lt)
       | inr le ↦ let later = past a b fuel (All-head (λ l. ¬ (Spans l fuel)) (line a b) (lines (b ∷ rows)) apart) le in
-          inr (above_each a (b ∷ rows) fuel rising (omega (arith, later, rising_head a b rows rising)) apart)
+          inr (above_each a (b ∷ rows) fuel rising (omega (arith, later, rising_head point_of a b rows rising)) apart)
     ]
 
 apart_below : (rows : List FuelRow) (fuel : ℕ) → All (λ r. fuel < r.fuel.0) rows → All (λ l. ¬ (Spans l fuel)) (lines rows)

@@ -1,4 +1,4 @@
--- Why a list of rows is no fuel table: the first reason, in the order of the faults.
+-- Why a list of rows does not make a fuel table: the first reason, in the order of the faults.
 use Rattle.std.specs.Prelude.{◌≡◌, ◌<◌, List, [], length, Some}
 use Rattle.fuel_table.specs.declared.row.FuelRow.{FuelRow}
 use Rattle.fuel_table.specs.declared.FuelFault.{FuelFault}

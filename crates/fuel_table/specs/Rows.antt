@@ -1,27 +1,26 @@
 -- The rows of a fuel table, the straight lines between neighbouring ones, and the index of a fuel mass.
-use Rattle.std.specs.Prelude.{◌≡◌, ℕ, ◌+◌, ◌<◌, ◌≤◌, List, [], ◌∷◌, length, Option, ℤ, All, Any, ◌⊎◌, nat_le, position}
-use Rattle.std.specs.Option.{option_map}
+use Rattle.std.specs.Prelude.{◌≡◌, ℕ, ◌<◌, ◌≤◌, List, [], ◌∷◌, length, Option, ℤ, All, Any, ◌⊎◌}
 use Rattle.mass_units.specs.declared.line.Line.{Line}
+use Rattle.mass_units.specs.declared.line.Point.{Point}
+use Rattle.mass_units.specs.Polyline as polyline
 use Rattle.mass_units.specs.Line.{Spans, IsFloor}
 use Rattle.fuel_table.specs.declared.row.FuelRow.{FuelRow}
 
--- the line from one row to the next
-abbrev pub line : FuelRow → FuelRow → Line
-line a b = record { from = a.fuel; at_from = a.index; to = b.fuel; at_to = b.index }
+-- where the row stands
+abbrev pub point_of : FuelRow → Point
+point_of row = record { mass = row.fuel; index = row.index }
 
 -- the lines between neighbouring rows
 abbrev pub lines : List FuelRow → List Line
-lines [] = []
-lines (a ∷ []) = []
-lines (a ∷ b ∷ rows) = line a b ∷ lines (b ∷ rows)
+lines rows = polyline.lines point_of rows
 
 -- each row has more fuel than the one before it
 abbrev pub IsRising : List FuelRow → Type 0
-IsRising rows = All (λ line. line.from.0 < line.to.0) (lines rows)
+IsRising rows = polyline.IsRising point_of rows
 
 -- the place of the first row that has no more fuel than the one before it
 abbrev pub first_fall : List FuelRow → Option ℕ
-first_fall rows = option_map (λ before. before + 1) (position (λ line. nat_le line.to.0 line.from.0) (lines rows))
+first_fall rows = polyline.first_fall point_of rows
 
 -- n is the index of the fuel: some line spans the fuel, and on each that does n is the line's index rounded down. The one
 -- row of a table of one row has its index at its own fuel

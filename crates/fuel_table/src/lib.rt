@@ -6,12 +6,12 @@ ghost use Rattle.std.specs.Prelude.{◌≡◌, ℤ, IfSome, IfNone, IfOk, IfErr,
 
 mod row;
 
-use mass_units::{Kg, Ticks};
+use mass_units::{Kg, Ticks, first_fall};
 pub use row::FuelRow;
 use std::marker::Model;
 use thiserror::Error;
 
-/// Why a list of rows is no fuel table.
+/// Why a list of rows does not make a fuel table.
 #[derive(Clone, Copy, Debug, PartialEq, Eq, Error)]
 pub enum FuelFault {
     /// There is no row.
@@ -57,7 +57,7 @@ impl FuelTable {
         if rows.is_empty() {
             return Err(FuelFault::Empty);
         }
-        if let Some(at) = row::first_fall(&rows) {
+        if let Some(at) = first_fall(&rows) {
             return Err(FuelFault::NotRising(at));
         }
         if rows.len() > 256 {

@@ -67,9 +67,9 @@ plain_text : (text : List ℕ) (n : ℕ) → text ≡ units_text n → text ≡ 
 unfolding index_text
 plain_text text n e = e
 
-index_behind_minus : (text size : List ℕ) (z : ℤ) → text ≡ 45 ∷ size → text ≡ index_text z → (n : ℕ) × (z ≡ negsuc n) × (size ≡ units_text (suc n))
+index_after_minus : (text size : List ℕ) (z : ℤ) → text ≡ 45 ∷ size → text ≡ index_text z → (n : ℕ) × (z ≡ negsuc n) × (size ≡ units_text (suc n))
 unfolding index_text
-index_behind_minus text size z mark e = with_sign-minus units_text units_text-no_minus size z (sym mark ∙ e)
+index_after_minus text size z mark e = with_sign-minus units_text units_text-no_minus size z (sym mark ∙ e)
 
 index_without_minus : (text : List ℕ) (z : ℤ) → ((rest : List ℕ) → text ≢ 45 ∷ rest) → text ≡ index_text z → (n : ℕ) × (z ≡ pos n) × (text ≡ units_text n)
 unfolding index_text
@@ -80,7 +80,7 @@ minus_refused text size TooLarge mark large none =
     let n = large refl in
     index_too_large text (neg_ℤ (pos n.0)) (λ h. absurd (omega (arith, n.1, rw (unsigned_abs-neg n.0) at h))) (minus_text text size n.0 mark (omega (arith, n.1)) n.2)
 minus_refused text size NotANumber mark large none =
-    index_none text (λ z e. let n = index_behind_minus text size z mark e in none refl (suc n.0) n.2)
+    index_none text (λ z e. let n = index_after_minus text size z mark e in none refl (suc n.0) n.2)
 
 pub plain_refused : (text : List ℕ) (e : NumFault) → ((rest : List ℕ) → text ≢ 45 ∷ rest) → (◌≡◌ {A = Result ℕ NumFault} (Err e) (Err TooLarge) → (n : ℕ) × (10 ^ 9 < n) × (text ≡ units_text n)) → (◌≡◌ {A = Result ℕ NumFault} (Err e) (Err NotANumber) → (n : ℕ) → text ≢ units_text n) → IndexRead text (Err e)
 plain_refused text TooLarge plain large none =
@@ -90,7 +90,7 @@ plain_refused text NotANumber plain large none =
 
 pub minus_zero : (text size : List ℕ) → text ≡ 45 ∷ size → size ≡ units_text 0 → IndexRead text (Err NotANumber)
 minus_zero text size mark zero_text =
-    index_none text (λ z e. let n = index_behind_minus text size z mark e in absurd (omega (arith, units_text-injective 0 (suc n.0) (sym zero_text ∙ n.2))))
+    index_none text (λ z e. let n = index_after_minus text size z mark e in absurd (omega (arith, units_text-injective 0 (suc n.0) (sym zero_text ∙ n.2))))
 
 pub minus_read : (text size : List ℕ) (n : ℕ) (t : Ticks) → text ≡ 45 ∷ size → 0 < n → n ≤ 10 ^ 9 → size ≡ units_text n → t.0 ≡ neg_ℤ (pos n) → IndexRead text (Ok t)
 minus_read text size n t mark more small e is =
@@ -115,9 +115,9 @@ signed_read text z small e = record {
 signed_none : (text : List ℕ) → ((z : ℤ) → IsSignedNumber z → text ≢ signed_text z) → SignedRead text None
 signed_none text never = record { some = tt; read_back = λ z h f. absurd (never z h f) }
 
-signed_behind_minus : (text size : List ℕ) (z : ℤ) → text ≡ 45 ∷ size → text ≡ signed_text z → (n : ℕ) × (z ≡ negsuc n) × (size ≡ number_text (suc n))
+signed_after_minus : (text size : List ℕ) (z : ℤ) → text ≡ 45 ∷ size → text ≡ signed_text z → (n : ℕ) × (z ≡ negsuc n) × (size ≡ number_text (suc n))
 unfolding signed_text
-signed_behind_minus text size z mark e = with_sign-minus number_text number_text-no_minus size z (sym mark ∙ e)
+signed_after_minus text size z mark e = with_sign-minus number_text number_text-no_minus size z (sym mark ∙ e)
 
 signed_without_minus : (text : List ℕ) (z : ℤ) → ((rest : List ℕ) → text ≢ 45 ∷ rest) → text ≡ signed_text z → (n : ℕ) × (z ≡ pos n) × (text ≡ number_text n)
 unfolding signed_text
@@ -131,10 +131,10 @@ plain_number : (text : List ℕ) (n : ℕ) → text ≡ number_text n → text �
 unfolding signed_text
 plain_number text n e = e
 
--- no number stands behind the minus
+-- no number follows the minus
 pub signed_minus_none : (text size : List ℕ) → text ≡ 45 ∷ size → ((n : ℕ) → IsNumber n → size ≡ number_text n → ◌≡◌ {A = Option ℕ} None (Some n)) → SignedRead text None
 signed_minus_none text size mark back =
-    signed_none text (λ z h e. let n = signed_behind_minus text size z mark e in let never : ◌≡◌ {A = Option ℕ} None (Some (suc n.0)) = back (suc n.0) (subst IsSignedNumber n.1 h) n.2 in cc)
+    signed_none text (λ z h e. let n = signed_after_minus text size z mark e in let never : ◌≡◌ {A = Option ℕ} None (Some (suc n.0)) = back (suc n.0) (subst IsSignedNumber n.1 h) n.2 in cc)
 
 pub signed_plain_none : (text : List ℕ) → ((rest : List ℕ) → text ≢ 45 ∷ rest) → ((n : ℕ) → IsNumber n → text ≡ number_text n → ◌≡◌ {A = Option ℕ} None (Some n)) → SignedRead text None
 signed_plain_none text plain back =
@@ -142,7 +142,7 @@ signed_plain_none text plain back =
 
 pub signed_minus_zero : (text size : List ℕ) → text ≡ 45 ∷ size → size ≡ number_text 0 → SignedRead text None
 signed_minus_zero text size mark zero_text =
-    signed_none text (λ z h e. let n = signed_behind_minus text size z mark e in absurd (omega (arith, number_text-injective 0 (suc n.0) (sym zero_text ∙ n.2))))
+    signed_none text (λ z h e. let n = signed_after_minus text size z mark e in absurd (omega (arith, number_text-injective 0 (suc n.0) (sym zero_text ∙ n.2))))
 
 pub signed_minus_read : (text size : List ℕ) (n : ℕ) (z : ℤ) → text ≡ 45 ∷ size → 0 < n → IsNumber n → size ≡ number_text n → z ≡ neg_ℤ (pos n) → SignedRead text (Some z)
 signed_minus_read text size n z mark more small e is =

@@ -1,5 +1,6 @@
-//! The units of the load control office: whole kilograms, and index ticks of 1/100000 index unit. Here
-//! stand their texts, straight lines from mass to index, and the percent of the mean aerodynamic chord.
+//! The units of the load control office: whole kilograms, and index ticks of 1/100000 index unit. With
+//! their texts, the straight lines from mass to index along which limits run, and the centre of gravity
+//! in percent of the mean aerodynamic chord.
 #![tactic(auto)]
 
 ghost use Rattle.std.specs.Prelude.{◌+◌, ◌<◌, ◌^◌, ◌+ℤ◌, FitsSigned};
@@ -8,11 +9,13 @@ ghost use Rattle.std.specs.Option.{SomeIff};
 
 mod chord;
 mod line;
+mod polyline;
 mod spelling;
 mod wide;
 
 pub use chord::{Chord, mac_hundredths};
-pub use line::Line;
+pub use line::{Line, Point};
+pub use polyline::{Lines, ToPoint, first_fall};
 pub use spelling::{
     NumFault, read_number, read_signed, read_ticks5, write_number, write_signed, write_ticks2,
     write_ticks5,
@@ -26,8 +29,15 @@ pub struct Kg(pub u32);
 #[derive(Clone, Copy, Debug, PartialEq, Eq, PartialOrd, Ord)]
 pub struct Ticks(pub i64);
 
+/// The indices from `low` to `high`, both among them. There is none where `low` is greater than `high`.
+#[derive(Clone, Copy, Debug, PartialEq, Eq)]
+pub struct Band {
+    pub low: Ticks,
+    pub high: Ticks,
+}
+
 impl Kg {
-    /// The sum of both masses. None where it leaves the type.
+    /// The sum of both masses. None on overflow.
     pub fn plus(self, other: Kg) -> Option<Kg>
         ensures { SomeIff result (self.0 + other.0 < 2 ^ 32) (record { 0 = self.0 + other.0 }) }
     {
@@ -36,7 +46,7 @@ impl Kg {
 }
 
 impl Ticks {
-    /// The sum of both indices. None where it leaves the type.
+    /// The sum of both indices. None on overflow.
     pub fn plus(self, other: Ticks) -> Option<Ticks>
         ensures { SomeIff result (FitsSigned w64 (self.0 +ℤ other.0)) (record { 0 = self.0 +ℤ other.0 }) }
     {
@@ -49,7 +59,7 @@ mod tests {
     use super::*;
 
     #[test]
-    fn sums_stay_in_the_type(rt: HostRuntime) {
+    fn sums_do_not_overflow(rt: HostRuntime) {
         assert_eq!(rt; Kg(42_000).plus(Kg(580)), Some(Kg(42_580)));
         assert_eq!(rt; Kg(u32::MAX).plus(Kg(1)), None);
         assert_eq!(rt;

@@ -6,6 +6,13 @@ ghost use Rattle.std.specs.Int.{w64};
 use crate::wide::{difference, product, share_down};
 use crate::{Kg, Ticks};
 
+/// A mass and the index at it.
+#[derive(Clone, Copy, Debug, PartialEq, Eq)]
+pub struct Point {
+    pub mass: Kg,
+    pub index: Ticks,
+}
+
 /// A straight line from a mass to a greater one, with the index that it has at each.
 #[derive(Clone, Copy, Debug, PartialEq, Eq)]
 pub struct Line {
@@ -21,6 +28,19 @@ pub struct Line {
 
 impl Line {
     ghost use Rattle.mass_units.specs.Line.{IsOnOrAft, IsOnOrForward, IsFloor, Spans};
+    ghost use Rattle.mass_units.specs.Polyline.{line_between};
+
+    /// The line from one point to the next.
+    pub fn between(start: Point, end: Point) -> Line
+        ensures { result ≡ line_between start end }
+    {
+        Line {
+            from: start.mass,
+            at_from: start.index,
+            to: end.mass,
+            at_to: end.index,
+        }
+    }
 
     /// True where the mass lies between the line's ends, or at one of them.
     pub fn spans(&self, mass: Kg) -> bool

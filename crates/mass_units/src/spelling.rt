@@ -48,7 +48,7 @@ pub fn read_ticks5(text: &[u8]) -> Result<Ticks, NumFault>
     ensures not_a_number { (result ≡ Err NumFault.NotANumber)
         ↔ ((z : ℤ) → text.now ≢ index_text z) }
 {
-    match behind(b'-', text) {
+    match after_mark(b'-', text) {
         Some(size) => match read_size(size)? {
             0 => Err(NumFault::NotANumber),
             n => Ok(Ticks(-i64::from(n))),
@@ -73,7 +73,7 @@ pub fn read_signed(text: &[u8]) -> Option<i32>
     ensures some { IfSome result (λ z. IsSignedNumber z × (text.now ≡ signed_text z)) }
     ensures read_back { (z : ℤ) → IsSignedNumber z → text.now ≡ signed_text z → result ≡ Some z }
 {
-    match behind(b'-', text) {
+    match after_mark(b'-', text) {
         Some(size) => match read_number(size)? {
             0 => None,
             n => Some(-(n as i32)),
@@ -126,7 +126,7 @@ pub fn write_signed(_alloc: Global, n: i32, out: &mut Vec<u8>) -> Result<(), NoM
 }
 
 /// What follows the mark at the front of the text. None where the text does not begin with it.
-fn behind(mark: u8, text: &[u8]) -> Option<&[u8]>
+fn after_mark(mark: u8, text: &[u8]) -> Option<&[u8]>
     ensures some { IfSome result (λ rest. text.now ≡ mark ∷ rest.now) }
     ensures none { IfNone result ((rest : List ℕ) → text.now ≢ mark ∷ rest) }
 {
@@ -187,7 +187,7 @@ fn read_units(text: &[u8]) -> Option<u64>
     let point = text.len().checked_sub(6)?;
     let (whole, rest) = text.split_at(point);
     let whole = read_whole(whole)?;
-    let decimals = read_digits(behind(b'.', rest)?)?;
+    let decimals = read_digits(after_mark(b'.', rest)?)?;
     Some(
         whole
             .saturating_mul(TICKS_PER_UNIT)
@@ -250,7 +250,7 @@ fn two_decimals(hundredths: u32) -> [u8; 3]
     ]
 }
 
-/// Appends the parts of an index, or nothing where memory is wanting.
+/// Appends the parts of an index, or nothing when out of memory.
 fn append(out: &mut Vec<u8>, sign: &[u8], whole: u64, decimals: &[u8]) -> Result<(), NoMemory>
     requires { length sign.now + length decimals.now < 100 }
     ensures ok { OnOk result

@@ -29,7 +29,7 @@ pub(crate) fn rounded(n: i128, d: u64) -> i128
     if n < 0 { -size } else { size }
 }
 
-/// The part of n that is part / whole of it, rounded down towards minus infinity.
+/// n * part / whole, rounded down towards minus infinity.
 pub(crate) fn share_down(n: i128, part: u32, whole: u32) -> i128
     requires size { unsigned_abs n < 2 ^ 64 }
     requires some { 0 < whole }

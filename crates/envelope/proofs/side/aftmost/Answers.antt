@@ -1,8 +1,7 @@
-use Rattle.std.proofs.Common.{rules, sym, ◌∙◌, ◌≡◌, ◌≤ℤ◌}
+use Rattle.std.proofs.Common.{List, rules, sym, ◌∙◌, ◌≡◌, ◌≤ℤ◌}
 use Rattle.std.proofs.lemmas.List.{map-id}
 use Rattle.std.proofs.lemmas.Iterator.Consumers.{YieldsList-from_first, YieldsList-end}
 use Rattle.mass_units.specs.declared.line.Line.{Line}
-use Rattle.envelope.specs.declared.corner.Edges.{Edges}
 use Rattle.mass_units.specs.Line.{Spans, IsOnOrForward}
 use Rattle.envelope.specs.Edges.{edges, IsOnOrForwardOf}
 use Rattle.envelope.proofs.SideLemmas.{IsBound-skip, IsBound-take, IsBound-some, IsBound-none}
@@ -12,7 +11,7 @@ pub loop-edge-preserved-then-spans : goal.loop-edge-preserved-then-spans
 loop-edge-preserved-then-spans c =
     let mass = c.args.mass.0 in
     let spans : Spans c.in-Some.edge mass = search rules in
-    IsBound-take (λ t z. z ≤ℤ t) (λ e. Spans e mass) (λ e z. IsOnOrForward e mass z) c.loop-edge.yielded c.in-Some.edge c.loop-edge.aftmost c.floor_at.result c.foremore.result c.loop-edge.invariant spans c.floor_at.ensures.greatest c.foremore.ensures
+    IsBound-take (λ t z. z ≤ℤ t) (λ e. Spans e mass) (λ e z. IsOnOrForward e mass z) c.loop-edge.yielded c.in-Some.edge c.loop-edge.aftmost c.floor_at.result c.lesser_index.result c.loop-edge.invariant spans c.floor_at.ensures.greatest c.lesser_index.ensures
 
 pub loop-edge-preserved : goal.loop-edge-preserved
 loop-edge-preserved c =
@@ -24,7 +23,7 @@ pub returns-clause-some : goal.returns-clause-some
 unfolding IsOnOrForwardOf
 returns-clause-some c =
     let mass = c.args.mass.0 in
-    let run = YieldsList-end (YieldsList-from_first (λ (edge : Line). edge) (λ (s : Edges). edges s.corners.now) (edges c.args.corners.now) cc) c.loop-edge.yielded c.loop-edge.edge-iterator c.loop-edge.yielded_by c.next.result c.next.new.self c.in-None.is c.next.ensures.steps in
+    let run = YieldsList-end (YieldsList-from_first (λ (edge : Line). edge) (λ (left : List Line). left) (edges c.args.corners.now) cc) c.loop-edge.yielded c.loop-edge.edge-iterator c.loop-edge.yielded_by c.next.result c.next.new.self c.in-None.is c.next.ensures.steps in
     let whole : c.loop-edge.yielded ≡ edges c.args.corners.now = sym (map-id c.loop-edge.yielded) ∙ run.0 in
     IsBound-some (λ t z. z ≤ℤ t) (λ e. Spans e mass) (λ e z. IsOnOrForward e mass z) (edges c.args.corners.now) c.loop-edge.aftmost (rw whole at c.loop-edge.invariant)
 
@@ -32,6 +31,6 @@ pub returns-clause-none : goal.returns-clause-none
 unfolding IsOnOrForwardOf
 returns-clause-none c =
     let mass = c.args.mass.0 in
-    let run = YieldsList-end (YieldsList-from_first (λ (edge : Line). edge) (λ (s : Edges). edges s.corners.now) (edges c.args.corners.now) cc) c.loop-edge.yielded c.loop-edge.edge-iterator c.loop-edge.yielded_by c.next.result c.next.new.self c.in-None.is c.next.ensures.steps in
+    let run = YieldsList-end (YieldsList-from_first (λ (edge : Line). edge) (λ (left : List Line). left) (edges c.args.corners.now) cc) c.loop-edge.yielded c.loop-edge.edge-iterator c.loop-edge.yielded_by c.next.result c.next.new.self c.in-None.is c.next.ensures.steps in
     let whole : c.loop-edge.yielded ≡ edges c.args.corners.now = sym (map-id c.loop-edge.yielded) ∙ run.0 in
     IsBound-none (λ t z. z ≤ℤ t) (λ e. Spans e mass) (λ e z. IsOnOrForward e mass z) (edges c.args.corners.now) c.loop-edge.aftmost (rw whole at c.loop-edge.invariant)

@@ -12,7 +12,7 @@ loop-corner-preserved c =
     elim c.if-not-is_on_or_aft.branch [
       | then-not-is_on_or_aft w ↦
           let out = fails_from_false c.is_on_or_aft.result c.is_on_or_aft.ensures w.if-not-is_on_or_aft.true in
-          rw w.first-is (FirstOutside-take_at (λ c. IsOnOrAftOf forward c.mass.0 c.index.0) c.args.corners.now c.loop-corner.corner-index zero c.loop-corner.first w.lesser.result c.loop-corner-test.true c.loop-corner.invariant out w.lesser.ensures)
+          rw w.first-is (FirstOutside-take_at (λ c. IsOnOrAftOf forward c.mass.0 c.index.0) c.args.corners.now c.loop-corner.corner-index zero c.loop-corner.first w.lesser_mass.result c.loop-corner-test.true c.loop-corner.invariant out w.lesser_mass.ensures)
       | else-not-is_on_or_aft w ↦
           let within = holds_from_true c.is_on_or_aft.result c.is_on_or_aft.ensures w.if-not-is_on_or_aft.false in
           rw w.first-is (FirstOutside-skip_at (λ c. IsOnOrAftOf forward c.mass.0 c.index.0) c.args.corners.now c.loop-corner.corner-index zero c.loop-corner.first c.loop-corner-test.true c.loop-corner.invariant within)
