@@ -1,4 +1,4 @@
--- the rules on the masses of a flight
+-- The rules on the masses of a flight.
 use Rattle.std.specs.Prelude.{ℕ, Bool, nat_lt, ◌||◌, List, [], ◌∷◌}
 use Rattle.mass_limits.specs.Masses.{ramp_mass, zero_fuel_mass, take_off_mass, landing_mass}
 use Rattle.mass_limits.specs.declared.figures.MassInput.{MassInput}

@@ -1,4 +1,4 @@
--- the masses of a flight, in kilograms, each as a sum of what was weighed
+-- The masses of a flight in kilograms, each the sum of its components.
 use Rattle.std.specs.Prelude.{ℕ, ◌+◌, ◌-◌, ◌^◌, ◌<◌, ◌≤◌}
 use Rattle.mass_limits.specs.declared.figures.MassInput.{MassInput}
 use Rattle.mass_limits.specs.declared.figures.Masses.{Masses}
@@ -28,7 +28,7 @@ masses_of m = record {
   landing = record { 0 = landing_mass m };
 }
 
--- the trip burns only fuel that is on board, and the greatest of the four masses is one of 32 bits
+-- the trip burns only fuel that is on board, and the greatest of the four masses fits in 32 bits
 pub record CanBeWeighed (m : MassInput) : Type 0 where
   pub trip_on_board : m.trip.0 ≤ m.take_off_fuel.0
   pub ramp_fits : ramp_mass m < 2 ^ 32

@@ -1,8 +1,8 @@
-//! What goes into the masses of a flight, and what comes out.
+//! The figures that the masses of a flight are computed from, and the masses.
 
 use mass_units::Kg;
 
-/// What the masses of a flight are made of, and the limits of the day.
+/// The components of a flight's masses, and the limits of the day.
 #[derive(Clone, Copy, Debug, PartialEq, Eq)]
 pub struct MassInput {
     /// The dry operating mass: the aircraft with its crew and its equipment, and no usable fuel.
@@ -39,10 +39,10 @@ pub struct Masses {
     pub landing: Kg,
 }
 
-/// The traffic load that a flight could still take, with the limit that says so.
+/// The traffic load that a flight could still take, with the limit that decides it.
 #[derive(Clone, Copy, Debug, PartialEq, Eq)]
 pub struct Underload {
-    /// Kilograms. Below zero they are the kilograms by which the flight is over.
+    /// Kilograms. Below zero it is how far the flight is over its limit.
     pub kg: i64,
     pub limiting: Limiting,
 }
@@ -58,7 +58,7 @@ pub enum Limiting {
     Landing,
 }
 
-/// A rule on the masses of a flight. Its default only fills the unused places of a list.
+/// A rule on the masses of a flight. The default only fills the unused slots of a list.
 #[derive(Clone, Copy, Debug, Default, PartialEq, Eq)]
 pub enum MassRule {
     /// The ramp mass is at most the certified one.

@@ -1,4 +1,4 @@
-//! The masses of a flight, what it could still take, and the limits that it breaks.
+//! The masses of a flight, its underload, and the limits that it breaks.
 //!
 //! The masses build on one another as the FAA's Aircraft Weight and Balance Handbook
 //! (FAA-H-8083-1B) has them: the dry operating mass with the traffic load is the zero-fuel mass,
@@ -6,7 +6,7 @@
 //! less the trip fuel is the landing mass. A certified limit is the aircraft's own. A regulated limit
 //! is that of the day, for this runway and this weather, and may be no higher.
 //!
-//! All masses are whole kilograms, and no call takes memory.
+//! All masses are whole kilograms. Nothing here allocates.
 #![tactic(auto)]
 
 mod figures;

@@ -1,6 +1,6 @@
-//! The calls: masses, underload and broken rules.
+//! Masses, underload and broken rules.
 
-ghost use Rattle.std.specs.Prelude.{Some, filter, find, ◌<◌, ◌^◌, ◌≡◌, ◌≤◌};
+ghost use Rattle.std.specs.Prelude.{Some, filter, find, ◌<◌, ◌^◌, ◌≡◌};
 ghost use Rattle.mass_limits.specs.MassRule.{is_broken, rules};
 ghost use Rattle.mass_limits.specs.Masses.{CanBeWeighed, masses_of, take_off_mass, zero_fuel_mass};
 ghost use Rattle.mass_limits.specs.Underload.{allowance, is_least, limits, underload_of};
@@ -13,7 +13,7 @@ use mass_units::Kg;
 ///
 /// Zero-fuel is dry and traffic, take-off adds the take-off fuel, ramp adds the taxi fuel to that, and
 /// landing is take-off less the trip fuel. With masses of at most a million kilograms, and a traffic
-/// load of at most a thousand million, the condition asks only that the trip fuel is on board.
+/// load of at most a thousand million, the precondition is only that the trip fuel is on board.
 pub fn masses(m: &MassInput) -> Masses
     requires { CanBeWeighed m.now }
     ensures { result ≡ masses_of m.now }
@@ -32,8 +32,8 @@ pub fn masses(m: &MassInput) -> Masses
 ///
 /// Each limit allows a take-off mass: the certified zero-fuel mass with the take-off fuel on top, the
 /// regulated take-off mass, and the regulated landing mass with the trip fuel on top. The least of the
-/// three is the allowed one, and the underload is what it is above the take-off mass. Of equal limits
-/// the first is named, in the order of `Limiting`.
+/// three is the allowed one, and the underload is the allowed mass less the take-off mass. Of equal
+/// limits the first is reported, in the order of `Limiting`.
 pub fn underload(m: &MassInput, c: &Certified) -> Underload
     ensures kg { result.kg ≡ underload_of m.now c.now }
     ensures first_of_the_least { find (is_least m.now c.now) limits ≡ Some result.limiting }
@@ -56,8 +56,8 @@ pub fn underload(m: &MassInput, c: &Certified) -> Underload
 
 /// The rules that a flight breaks, in the order of `MassRule`.
 ///
-/// Take-off and landing mass are held against the regulated masses, ramp and zero-fuel mass against the
-/// certified ones, and each regulated mass against the certified one. At its limit a mass breaks no rule.
+/// Take-off and landing mass are compared with the regulated masses, ramp and zero-fuel mass with the
+/// certified ones, and each regulated mass with the certified one. A mass at its limit breaks no rule.
 pub fn broken(m: &MassInput, c: &Certified) -> ArrayVec<MassRule, 5>
     ensures { result.items ≡ filter (is_broken m.now c.now) rules }
 {

@@ -1,10 +1,12 @@
--- how large the index of a zone is
+-- How large the index of a zone is.
 use Rattle.std.proofs.Common.{◌≡◌, ℕ, ◌+◌, ◌*◌, ◌^◌, ◌<◌, ◌≤◌, ℤ, pos, ◌+ℤ◌, ◌*ℤ◌, FitsSigned, w32, w64, to_z, of_z, unsigned_abs, List, length, take, take_all, get_or, min, arith, ap, sym, ◌∙◌, mul-le-mul_left}
 use Rattle.std.proofs.lemmas.Int.{ints, unsigned_abs-mul, fits_signed_from_abs, to_z-of_z, to_z_pos}
-use Rattle.std.proofs.lemmas.List.Sums.{fold_more, sum_by_more, sum_by-take-le}
+use Rattle.std.proofs.lemmas.List.Sums.{sum_by_more, sum_by-take-le}
 use Rattle.std.proofs.lemmas.Slice.Zip.{length-zip, get_or-zip}
 use Rattle.std.specs.List.{zip}
-use Rattle.payload.specs.Load.{cabin_index, cabin_mass, int_sum_by, zone_index, zone_mass}
+use Rattle.desk_base.specs.Lists.{int_sum_by}
+use Rattle.desk_base.proofs.SignedSums.{int_sum_by-more}
+use Rattle.payload.specs.Load.{cabin_index, cabin_mass, zone_index, zone_mass}
 use Rattle.payload.specs.declared.figures.Averages.{Averages}
 use Rattle.payload.specs.declared.figures.Zone.{Zone}
 use Rattle.payload.specs.declared.figures.ZoneCount.{ZoneCount}
@@ -64,7 +66,7 @@ module _ (average : Averages) (counts : List ZoneCount) (zones : List Zone) (n :
         let within : n < length (zip counts zones) = rw length-zip (omega arith) in
         let pair : get_or (zip counts zones) n (count, zone) ≡ (count, zone) =
         get_or-zip counts zones n (count, zone) turn.0 turn.1 ∙ (λ i. (sym (turn.2 count) i, sym (turn.3 zone) i)) in
-        (λ i. so_far.sum i +ℤ is i) ∙ sym (fold_more (λ a x. a +ℤ zone_index average x) (pos 0) (zip counts zones) n (count, zone) within
+        (λ i. so_far.sum i +ℤ is i) ∙ sym (int_sum_by-more (zone_index average) (zip counts zones) n (count, zone) within
         ∙ ap (λ p. int_sum_by (zone_index average) (take n (zip counts zones)) +ℤ zone_index average p) pair);
     bound =
         let mass : cabin_mass average (take (n + 1) counts) ≡ cabin_mass average (take n counts) + zone_mass average count =

@@ -1,6 +1,7 @@
--- the load of a cabin, and of loose pieces: passengers and bags at the operator's averages
-use Rattle.std.specs.Prelude.{ℕ, ◌+◌, ◌*◌, ◌^◌, ◌<◌, ℤ, pos, ◌+ℤ◌, ◌*ℤ◌, List, sum_by, fold}
+-- The load of a cabin, and of loose pieces: passengers and bags at the operator's averages.
+use Rattle.std.specs.Prelude.{ℕ, ◌+◌, ◌*◌, ◌^◌, ◌<◌, ℤ, pos, ◌*ℤ◌, List, sum_by}
 use Rattle.std.specs.List.{zip}
+use Rattle.desk_base.specs.Lists.{int_sum_by}
 use Rattle.payload.specs.declared.figures.Averages.{Averages}
 use Rattle.payload.specs.declared.figures.Load.{Load}
 use Rattle.payload.specs.declared.figures.Zone.{Zone}
@@ -14,10 +15,6 @@ zone_mass average count =
 -- the index of a zone: its mass times its influence
 abbrev pub zone_index : Averages → ZoneCount × Zone → ℤ
 zone_index average (count, zone) = pos (zone_mass average count) *ℤ zone.influence
-
--- the sum of a whole number of each element
-abbrev pub int_sum_by : {X : Type 0} → (X → ℤ) → List X → ℤ
-int_sum_by f xs = fold (λ a x. a +ℤ f x) (pos 0) xs
 
 -- the mass of a cabin: that of its zones
 abbrev pub cabin_mass : Averages → List ZoneCount → ℕ
@@ -56,6 +53,10 @@ pub record FitsLoad (average : Averages) (cabin : List ZoneCount) : Type 0 where
   pub children : children_in cabin < 2 ^ 32
   pub infants : infants_in cabin < 2 ^ 32
 
--- the mass of loose load: what was weighed, and its pieces at the average of a bag
+-- the greatest mass of a loose load, in kilograms
+abbrev pub most_loose : ℕ
+most_loose = 20000
+
+-- the mass of a loose load: what was weighed, and its pieces at the average of a bag
 abbrev pub loose_mass_of : ℕ → ℕ → Averages → ℕ
 loose_mass_of mass pieces average = mass + pieces * average.bag.0

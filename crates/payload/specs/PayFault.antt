@@ -1,4 +1,4 @@
--- what is wrong with a cabin, and which of several faults is named
+-- What is wrong with a cabin, and which of several faults is reported.
 use Rattle.std.specs.Prelude.{◌≡◌, ℕ, ◌+◌, ◌<◌, ◌≤◌, Bool, nat_lt, Option, Some, None, List, length, find, option_map}
 use Rattle.std.specs.List.{zip, enumerate_from}
 use Rattle.payload.specs.Load.{adults_in, infants_in}
@@ -21,7 +21,7 @@ first_overfull zones cabin =
 abbrev pub HasZones : List Zone → List ZoneCount → Type 0
 HasZones zones cabin = length cabin ≤ length zones
 
--- the fault is there, and none that goes before it
+-- the cabin has this fault, and none that comes before it
 abbrev pub IsFirstFault : List Zone → List ZoneCount → PayFault → Type 0
 IsFirstFault zones cabin (ZoneUnknown n) = (length zones < length cabin) × (n ≡ length zones + 1)
 IsFirstFault zones cabin (ZoneFull n capacity) =

@@ -1,13 +1,14 @@
-//! What goes into the load of a cabin, and what comes out.
+//! The figures that the load of a cabin is computed from, and the load.
 
 use mass_units::{Kg, Ticks};
+use thiserror::Error;
 
 /// A zone of the aircraft's cabin.
 #[derive(Clone, Copy, Debug, PartialEq, Eq)]
 pub struct Zone {
-    /// Seats.
+    /// The number of seats.
     pub capacity: u16,
-    /// Ticks for each kilogram.
+    /// Ticks per kilogram.
     pub influence: i32,
 }
 
@@ -40,12 +41,15 @@ pub struct Load {
 }
 
 /// What is wrong with a cabin. Zones are numbered from 1.
-#[derive(Clone, Copy, Debug, PartialEq, Eq)]
+#[derive(Clone, Copy, Debug, PartialEq, Eq, Error)]
 pub enum PayFault {
-    /// The cabin has a count for a zone that the aircraft has not: the first such zone.
+    /// The cabin has a count for a zone that the aircraft does not have: the first such zone.
+    #[error("the aircraft has no zone {0}")]
     ZoneUnknown(usize),
     /// A zone has more adults and children than seats: the first such zone, and its seats.
+    #[error("zone {0} has more adults and children than its {1} seats")]
     ZoneFull(usize, u16),
     /// The cabin has more infants than adults to hold them.
+    #[error("the cabin has more infants than adults")]
     InfantsOverAdults,
 }

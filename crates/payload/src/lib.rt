@@ -2,10 +2,10 @@
 //!
 //! Passengers and bags are not weighed but counted, each at the operator's average for their kind
 //! (AC 120-27F). A mass has an index, by the index method of the FAA's Aircraft Weight and Balance
-//! Handbook (FAA-H-8083-1B): the mass times the influence of the place where it is carried. Masses are
-//! whole kilograms, indices ticks of 1/100000 index unit, and influences ticks for each kilogram.
+//! Handbook (FAA-H-8083-1B): the mass times the influence of where it is carried. Masses are whole
+//! kilograms, indices ticks of 1/100000 index unit, and influences ticks per kilogram.
 //!
-//! No call takes memory.
+//! Nothing here allocates.
 #![tactic(auto)]
 
 mod cabin;

@@ -1,8 +1,8 @@
-//! The calls: the load of a cabin, and the mass of loose load.
+//! The load of a cabin, and the mass of a loose load.
 
 ghost use Rattle.std.specs.Option.{SomeIff};
-ghost use Rattle.std.specs.Prelude.{IfOk, length, unsigned_abs, ◌*◌, ◌<◌, ◌^◌, ◌↔◌, ◌≡◌, ◌≤◌};
-ghost use Rattle.payload.specs.Load.{FitsLoad, cabin_index, cabin_mass, load_of, loose_mass_of, zone_index, zone_mass};
+ghost use Rattle.std.specs.Prelude.{IfOk, unsigned_abs, ◌*◌, ◌<◌, ◌^◌, ◌↔◌, ◌≡◌, ◌≤◌};
+ghost use Rattle.payload.specs.Load.{FitsLoad, cabin_index, cabin_mass, load_of, loose_mass_of, most_loose, zone_index, zone_mass};
 ghost use Rattle.payload.specs.PayFault.{HasZones, IsFirstFault, first_overfull, is_overfull};
 ghost use Rattle.payload.specs.declared.figures.PayFault.{PayFault};
 
@@ -15,10 +15,10 @@ pub const MOST_LOOSE: u64 = 20_000;
 
 /// The load of a cabin: its mass, its index and its passengers.
 ///
-/// Refused where a count has no zone, where a zone has too few seats for its adults and children, and
-/// where infants outnumber the adults of the whole cabin: the first of these decides, and nothing else
-/// refuses a cabin. The condition holds by far for 16 zones with 999 passengers of each kind, at averages
-/// of up to 300 kilograms.
+/// It fails if a count has no zone, if a zone has too few seats for its adults and children, or if infants
+/// outnumber the adults of the whole cabin. The first of these that holds is the fault, and there is no
+/// other. The precondition holds by a wide margin for 16 zones with 999 passengers of each kind, at
+/// averages of up to 300 kilograms.
 pub fn cabin_load(cabin: &Cabin, zones: &[Zone], averages: &Averages) -> Result<Load, PayFault>
     requires { HasZones zones.now cabin.now → FitsLoad averages.now cabin.now }
     ensures load { IfOk result (λ load. load ≡ load_of averages.now zones.now cabin.now) }
@@ -39,11 +39,11 @@ pub fn cabin_load(cabin: &Cabin, zones: &[Zone], averages: &Averages) -> Result<
     Ok(load)
 }
 
-/// The mass of a loose load: what was weighed, and its pieces at the average of a bag. None where that
-/// is over `MOST_LOOSE`.
+/// The mass of a loose load: what was weighed, and its pieces at the average of a bag. None if that is over
+/// `MOST_LOOSE`.
 pub fn loose_mass(mass: Kg, pieces: u16, averages: &Averages) -> Option<Kg>
     ensures { let total = loose_mass_of mass.0 pieces averages.now in
-        SomeIff result (total ≤ MOST_LOOSE) (record { 0 = total }) }
+        SomeIff result (total ≤ most_loose) (record { 0 = total }) }
 {
     let total = u64::from(mass.0) + u64::from(pieces) * u64::from(averages.bag.0);
     if total <= MOST_LOOSE {

@@ -82,7 +82,7 @@ fn loads_and_refusals_of_a_cabin(rt: HostRuntime) -> Result<(), Fail> {
 }
 
 #[test]
-fn a_zone_that_the_aircraft_has_not(rt: HostRuntime) -> Result<(), Fail> {
+fn a_zone_that_the_aircraft_does_not_have(rt: HostRuntime) -> Result<(), Fail> {
     let overfull = count(61, 0, 62);
     let three = Cabin::from(vec![in rt.alloc(); overfull, NOBODY, NOBODY]?);
     assert_eq!(rt;
@@ -107,7 +107,7 @@ fn a_zone_that_the_aircraft_has_not(rt: HostRuntime) -> Result<(), Fail> {
 }
 
 #[test]
-fn a_cabin_gives_its_counts_back(rt: HostRuntime) -> Result<(), Fail> {
+fn a_cabin_returns_its_counts(rt: HostRuntime) -> Result<(), Fail> {
     let cabin = Cabin::from(vec![in rt.alloc(); count(1, 2, 3), NOBODY]?);
     assert_eq!(rt; cabin.counts(), [count(1, 2, 3), NOBODY].as_slice());
     let counts = Vec::from(cabin);

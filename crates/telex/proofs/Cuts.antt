@@ -1,4 +1,4 @@
--- a list that is cut at the elements which pass a test
+-- Lists split at the elements that pass a test.
 use Rattle.std.proofs.Common.{◌≡◌, ℕ, suc, ◌+◌, ◌<◌, Bool, true, false, cond, List, [], ◌∷◌, ◌++◌, length, get_or, take, drop, Some, None, refl, sym, ap, subst, ◌∙◌, arith, append_assoc}
 use Rattle.std.specs.List.{position, position_or_len, slice_split, All, AllPairs, filter}
 use Rattle.std.proofs.lemmas.Bool.{ltb-false}
@@ -30,7 +30,7 @@ module _ {X : Type 0} (p : X → Bool) where
   abbrev pub Fails : X → Type 0
   Fails x = p x ≡ false
 
-  -- an induction over what stands before each element that passes
+  -- an induction over what precedes each element that passes
   pub by_cuts : (P : List X → Type 0)
       → ((xs : List X) → All Fails xs → P xs)
       → ((xs : List X) (y : X) (ys : List X) → All Fails xs → p y ≡ true → P ys → P (xs ++ y ∷ ys))
@@ -42,7 +42,7 @@ module _ {X : Type 0} (p : X → Bool) where
         | false ↦ λ fails. subst P (append_assoc front (y ∷ []) xs) (by_cuts P last more (front ++ y ∷ []) xs (All-push Fails front y clean fails))
       ] refl
 
-  -- where no place is the first that passes, none passes
+  -- if no element is the first that passes, none passes
   pub All-from_no_position : (xs : List X) → position p xs ≡ None → All Fails xs
   All-from_no_position xs none = λ k d l. fails_before_first p xs k d (omega (arith, l, ltb-false (position_or_len p xs) (length xs) (none_false _ _ none)))
     where
@@ -69,7 +69,7 @@ module _ {X : Type 0} (p : X → Bool) where
         is = sym (take-append-drop k xs) ∙ ap (λ rest. take k xs ++ rest) (drop_more xs k d first.0);
       }
 
-  -- the pieces between the elements that pass hold none of them
+  -- the pieces between the elements that pass contain none of them
   pub slice_split-apart : (xs : List X) → All (All Fails) (slice_split p xs)
   slice_split-apart xs =
       by_cuts (λ xs. All (All Fails) (slice_split p xs))
@@ -86,7 +86,7 @@ module _ {X : Type 0} (p : X → Bool) where
       (All-cons (All Q) xs _ (All-left Q xs (y ∷ ys) h) (rest (All-tail Q y ys (All-right Q xs (y ∷ ys) h)))))
       [] xs (All-nil Fails)
 
-  -- an element that passes, at the end, adds an empty piece
+  -- an element that passes at the end adds an empty piece
   pub slice_split-push : (xs : List X) (y : X) → p y ≡ true → slice_split p (xs ++ y ∷ []) ≡ slice_split p xs ++ [] ∷ []
   slice_split-push xs y hit =
       by_cuts (λ xs. slice_split p (xs ++ y ∷ []) ≡ slice_split p xs ++ [] ∷ [])
@@ -96,7 +96,7 @@ module _ {X : Type 0} (p : X → Bool) where
       ∙ ap (λ ps. xs ∷ ps) rest ∙ ap (λ ps. ps ++ [] ∷ []) (sym (slice_split_at p xs z ys clean passes)))
       [] xs (All-nil Fails)
 
-  -- a filter of what holds none that pass is empty
+  -- a filter of a list where none passes is empty
   pub filter-none : (xs : List X) → All Fails xs → filter p xs ≡ []
   filter-none [] clean = refl
   filter-none (x ∷ xs) clean =

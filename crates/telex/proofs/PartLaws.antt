@@ -1,4 +1,4 @@
--- what the parts of a line are
+-- Laws of the parts of a line.
 use Rattle.std.proofs.Common.{◌≡◌, ℕ, suc, replicate, ◌+◌, ◌<◌, ◌≤◌, true, cond, List, [], ◌∷◌, ◌++◌, length, get_or, take, drop, Some, None, refl, sym, ap, subst, ◌∙◌, arith, append_assoc, length-append}
 use Rattle.std.specs.List.{position, slice_split, All, AllPairs, flat_map, filter, zip}
 use Rattle.std.proofs.lemmas.List.{append-nil, length-replicate, take-append-drop, length-take-le}
@@ -85,7 +85,7 @@ parts_from-lies message back text =
     (after mark (at + length xs + 1) (front ++ (xs ++ mark ∷ [])) further count)))
     [] text (All-nil (Fails is_separator))
 
--- a text that lies in a message has a front and a back there
+-- a text in a message has a front and a back there
 front_and_back : (message : List ℕ) (at : ℕ) (text : List ℕ) → LiesIn message at text → message ≡ take at message ++ (text ++ drop (at + length text) message)
 front_and_back message at text lies =
     sym (take-append-drop at message)
@@ -169,12 +169,12 @@ length-parts_of line =
       count_by-le-length is_separator line.text,
     )
 
--- ---- no other list
+-- ---- the only list
 
 abbrev EndsWithin : ℕ → PlacedPart → Type 0
 EndsWithin size part = part.at + length part.text < size
 
--- parts one behind another, each with a byte behind it, need as much room as they have bytes
+-- parts one after another, each followed by a byte, are as long as their bytes
 room : (size at : ℕ) (parts : List PlacedPart) → at ≤ size → All (IsBehind at) parts → AllPairs IsBefore parts → All (EndsWithin size) parts
     → at + length (flat_map with_mark parts) ≤ size
 room size at [] fits behind rising within = omega arith
@@ -188,7 +188,7 @@ room size at (part ∷ more) fits behind rising within =
     (AllPairs-tail IsBefore part more rising) (All-tail (EndsWithin size) part more within) in
     omega (arith, length-append (with_mark part) (flat_map with_mark more))
 
--- parts that need all the room are those of what they join to
+-- parts that fill a line are the parts of that line
 without_gaps : (size : ℕ) (first : PlacedPart) (others : List PlacedPart)
     → All IsMarked others → All (λ part. All (Fails is_separator) part.text) (first ∷ others) → AllPairs IsBefore (first ∷ others) → All (EndsWithin size) (first ∷ others)
     → first.at + length (flat_map with_mark (first ∷ others)) ≡ size
@@ -217,7 +217,7 @@ without_gaps size first (second ∷ more) marked apart rising within full =
     ap (λ tail. first ∷ tail) (again ∙ ap (λ n. parts_from second.before n (joined_parts (second ∷ more))) here)
     ∙ sym (parts_from-cut first.before first.at first.text second.before (joined_parts (second ∷ more)) clean (All-head IsMarked second more marked))
 
--- what is said of the parts of a line, no other list meets
+-- no other list meets the description of the parts of a line
 pub ArePartsOf-only : (line : PlacedLine) (parts : List PlacedPart) → ArePartsOf line parts → parts ≡ parts_of line
 ArePartsOf-only line [] h = absurd h.led
 ArePartsOf-only line (first ∷ others) h =

@@ -1,4 +1,4 @@
--- a text that is written line by line is a message, which is cut into these lines and their parts: for the crates that write messages and read them back
+-- A text that is written line by line is a message, and its lines are those. For crates that write messages.
 use Rattle.std.proofs.Common.{◌≡◌, ℕ, ◌+◌, ◌-◌, ◌<◌, ◌≤◌, Bool, false, cond, List, [], ◌∷◌, ◌++◌, length, get_or, Some, None, refl, sym, ap, subst, ◌∙◌, arith, append_assoc, length-append}
 use Rattle.std.specs.List.{position, position_or_len, All, flat_map}
 use Rattle.std.specs.Option.{option_map}
@@ -9,28 +9,27 @@ use Rattle.std.proofs.lemmas.List.Elements.{All-nil, All-head, All-tail, All-app
 use Rattle.std.proofs.lemmas.List.Splits.{slice_split_at, length-slice_split}
 use Rattle.std.proofs.lemmas.List.Sums.{position_or_len_is}
 use Rattle.std.proofs.lemmas.Option.{slice_get-get_or, slice_get_within, get_or_from_slice_get}
-use Rattle.telex.specs.declared.reading.TheConstants.{LINE_FEED, LONGEST_LINE}
-use Rattle.telex.specs.Text.{is_foreign, is_line_feed, is_too_long, pieces, IsEnded, IsTelex}
+use Rattle.telex.specs.Text.{line_feed, longest_line, is_foreign, is_line_feed, is_too_long, pieces, IsEnded, IsTelex}
 use Rattle.telex.specs.Lines.{but_last, placed_from, lines_from, lines_of, IsPrintable}
 use Rattle.telex.proofs.Cuts.{Fails}
 use Rattle.telex.proofs.LineLaws.{but_last-cons, but_last-push}
 
 -- a line with its line feed
 abbrev pub ended : List ℕ → List ℕ
-ended line = line ++ LINE_FEED ∷ []
+ended line = line ++ line_feed ∷ []
 
 -- the line that a text begins with is the first of its lines
 pub lines_from-cut : (at : ℕ) (line rest : List ℕ) → All (Fails is_line_feed) line
-    → lines_from at (line ++ LINE_FEED ∷ rest) ≡ record { text = line; at = at } ∷ lines_from (at + length line + 1) rest
+    → lines_from at (line ++ line_feed ∷ rest) ≡ record { text = line; at = at } ∷ lines_from (at + length line + 1) rest
 lines_from-cut at line rest clean =
-    ap (λ ps. placed_from at (but_last ps)) (slice_split_at is_line_feed line LINE_FEED rest clean refl)
+    ap (λ ps. placed_from at (but_last ps)) (slice_split_at is_line_feed line line_feed rest clean refl)
     ∙ ap (placed_from at) (but_last-cons line (pieces rest) (omega (arith, length-slice_split is_line_feed rest)))
 
 pieces-written : (lines : List (List ℕ)) → All (All (Fails is_line_feed)) lines → pieces (flat_map ended lines) ≡ lines ++ [] ∷ []
 pieces-written [] clean = refl
 pieces-written (line ∷ more) clean =
-    ap pieces (append_assoc line (LINE_FEED ∷ []) (flat_map ended more))
-    ∙ slice_split_at is_line_feed line LINE_FEED (flat_map ended more) (All-head (All (Fails is_line_feed)) line more clean) refl
+    ap pieces (append_assoc line (line_feed ∷ []) (flat_map ended more))
+    ∙ slice_split_at is_line_feed line line_feed (flat_map ended more) (All-head (All (Fails is_line_feed)) line more clean) refl
     ∙ ap (λ ps. line ∷ ps) (pieces-written more (All-tail (All (Fails is_line_feed)) line more clean))
 
 pub lines_of-written : (lines : List (List ℕ)) → All (All (Fails is_line_feed)) lines → lines_of (flat_map ended lines) ≡ placed_from 0 lines
@@ -53,40 +52,40 @@ written-known : (lines : List (List ℕ)) → All (All IsPrintable) lines → Al
 written-known [] h = All-nil (Fails is_foreign)
 written-known (line ∷ more) h =
     All-append (Fails is_foreign) (ended line) (flat_map ended more)
-    (All-push (Fails is_foreign) line LINE_FEED (All-weaker IsPrintable (Fails is_foreign) printable-known line (All-head (All IsPrintable) line more h)) refl)
+    (All-push (Fails is_foreign) line line_feed (All-weaker IsPrintable (Fails is_foreign) printable-known line (All-head (All IsPrintable) line more h)) refl)
     (written-known more (All-tail (All IsPrintable) line more h))
 
-IsEnded-push : (body : List ℕ) → IsEnded (body ++ LINE_FEED ∷ [])
+IsEnded-push : (body : List ℕ) → IsEnded (body ++ line_feed ∷ [])
 IsEnded-push body =
-    let text = body ++ LINE_FEED ∷ [] in
-    let count : length text ≡ length body + 1 = omega (arith, length-append body (LINE_FEED ∷ [])) in
-    slice_get-get_or text (length text - 1) 0 (omega arith) ∙ ap Some (get_or_at body LINE_FEED [] 0 (length text - 1) (omega arith))
+    let text = body ++ line_feed ∷ [] in
+    let count : length text ≡ length body + 1 = omega (arith, length-append body (line_feed ∷ [])) in
+    slice_get-get_or text (length text - 1) 0 (omega arith) ∙ ap Some (get_or_at body line_feed [] 0 (length text - 1) (omega arith))
 
--- where the last byte of what comes behind is a line feed, it is that of the whole
+-- a text ends with a line feed if its back does
 IsEnded-behind : (front back : List ℕ) → IsEnded back → IsEnded (front ++ back)
 IsEnded-behind front back h =
     let text = front ++ back in
-    let within : length back - 1 < length back = slice_get_within back (length back - 1) LINE_FEED h in
+    let within : length back - 1 < length back = slice_get_within back (length back - 1) line_feed h in
     let place : length text - 1 ≡ length front + (length back - 1) = omega (arith, length-append front back) in
     slice_get-get_or text (length text - 1) 0 (omega (arith, length-append front back))
     ∙ ap (λ k. Some (get_or text k 0)) place
     ∙ ap Some (get_or-append-add front back (length back - 1) 0)
-    ∙ ap Some (get_or_from_slice_get back (length back - 1) LINE_FEED 0 h)
+    ∙ ap Some (get_or_from_slice_get back (length back - 1) line_feed 0 h)
 
 IsEnded-written : (lines : List (List ℕ)) → 0 < length lines → IsEnded (flat_map ended lines)
 IsEnded-written [] some = absurd (omega arith)
 IsEnded-written (line ∷ []) some = subst IsEnded (sym (append-nil (ended line))) (IsEnded-push line)
 IsEnded-written (line ∷ next ∷ more) some = IsEnded-behind (ended line) (flat_map ended (next ∷ more)) (IsEnded-written (next ∷ more) (omega arith))
 
--- one or more printable lines, none too long, are a message
-pub IsTelex-written : (lines : List (List ℕ)) → 0 < length lines → All (All IsPrintable) lines → All (λ line. length line ≤ LONGEST_LINE) lines
+-- one or more printable lines, none of them too long, are a message
+pub IsTelex-written : (lines : List (List ℕ)) → 0 < length lines → All (All IsPrintable) lines → All (λ line. length line ≤ longest_line) lines
     → IsTelex (flat_map ended lines)
 IsTelex-written lines some printable short =
     let clean : All (All (Fails is_line_feed)) lines =
     All-weaker (All IsPrintable) (All (Fails is_line_feed)) (λ line h. All-weaker IsPrintable (Fails is_line_feed) printable-in_line line h) lines printable in
     let fits : All (Fails is_too_long) (lines ++ [] ∷ []) =
     All-push (Fails is_too_long) lines []
-    (All-weaker (λ line. length line ≤ LONGEST_LINE) (Fails is_too_long) (λ line h. le-ltb LONGEST_LINE (length line) h) lines short) refl in
+    (All-weaker (λ line. length line ≤ longest_line) (Fails is_too_long) (λ line h. le-ltb longest_line (length line) h) lines short) refl in
     record {
       plain = position-none is_foreign (flat_map ended lines) (written-known lines printable);
       short = ap (λ ps. option_map (λ k. k + 1) (position is_too_long ps)) (pieces-written lines clean)

@@ -1,38 +1,42 @@
-//! Reading a message: the judgement over its text, its lines, and the parts of a line.
+//! Reading a message: checking its text, its lines, and the parts of a line.
 ghost use Rattle.std.specs.Prelude.{◌≡◌, ℕ, ◌+◌, ◌<◌, ◌≤◌, ◌^◌, ◌↔◌, List, length, All, IsOk, IfOk, IfSome, IsTrue, MatchOption};
 ghost use Rattle.std.specs.Iterator.{YieldsFirstBy, item_count};
 ghost use Rattle.std.specs.List.{position};
 ghost use Rattle.telex.specs.Lines.{PlacedLine, lines_of, AreLinesOf, IsPrintable};
 ghost use Rattle.telex.specs.Parts.{PlacedPart, is_separator, parts_of, ArePartsOf};
 ghost use Rattle.telex.specs.declared.reading.TelexFault.{TelexFault};
-ghost use Rattle.telex.specs.Text.{is_foreign, is_line_feed, bad_byte, long_line, IsEnded, IsTelex, IsRefusedWith};
+ghost use Rattle.telex.specs.Text.{longest_line, is_foreign, is_line_feed, bad_byte, long_line, IsEnded, IsTelex, IsRefusedWith};
 
 use std::marker::Model;
+use thiserror::Error;
 
 /// The byte that ends each line.
 pub const LINE_FEED: u8 = b'\n';
 
-/// The bytes of the longest line, without its line feed.
+/// The length of the longest line in bytes, without its line feed.
 pub const LONGEST_LINE: usize = 200;
 
-/// The first of the two bytes that part the elements of a line.
+/// One of the two bytes that separate the elements of a line.
 pub const DOT: u8 = b'.';
 
-/// The second of the two bytes that part the elements of a line.
+/// The other byte that separates the elements of a line.
 pub const SLASH: u8 = b'/';
 
-/// Why a text is no message. The first reason in this order is given.
-#[derive(Clone, Copy, Debug, PartialEq, Eq)]
+/// Why a text is not a message. Where several reasons hold, the first in this order is given.
+#[derive(Clone, Copy, Debug, PartialEq, Eq, Error)]
 pub enum TelexFault {
-    /// The place, counted from 0, of the first byte that is neither a line feed nor printable ASCII.
+    /// The offset of the first byte that is neither a line feed nor printable ASCII.
+    #[error("the byte at offset {0} is neither a line feed nor printable ASCII")]
     BadByte(usize),
     /// The number, counted from 1, of the first line of more than [`LONGEST_LINE`] bytes.
+    #[error("line {0} is longer than {most} bytes", most = LONGEST_LINE)]
     LineTooLong(usize),
-    /// The text is empty, or its last byte is no line feed.
+    /// The text is empty, or its last byte is not a line feed.
+    #[error("the text does not end with a line feed")]
     NoEnd,
 }
 
-/// A text that was judged and can be read line by line.
+/// A text that was checked and can be read line by line.
 #[derive(Debug, Drop)]
 pub struct Message<'a> {
     text: &'a [u8],
@@ -92,7 +96,7 @@ fn fault_in(text: &[u8]) -> Option<TelexFault>
     }
 }
 
-/// Judges a text, and hands it back as a message that can be read. It takes no memory.
+/// Checks a text and returns it as a message that can be read. It allocates nothing.
 pub fn cut(text: &[u8]) -> Result<Message<'_>, TelexFault>
     ensures message { IfOk result (λ message. message ≡ text.now) }
     ensures accepted { IsOk result ↔ IsTelex text.now }
@@ -111,7 +115,7 @@ impl<'a> Message<'a> {
         ensures cut { AreLinesOf self.now result }
         ensures only { (others : List PlacedLine) → AreLinesOf self.now others → others ≡ result }
         ensures few { length result < 2 ^ 64 }
-        ensures short { All (λ line. length line.text ≤ LONGEST_LINE) result }
+        ensures short { All (λ line. length line.text ≤ longest_line) result }
         ensures printable { All (λ line. All IsPrintable line.text) result }
     {
         Lines {
@@ -172,16 +176,16 @@ impl<'a> Iterator for Lines<'a> {
 pub struct Line<'a> {
     /// The bytes without the line feed.
     pub text: &'a [u8],
-    /// How many bytes of the message stand before the line.
+    /// The line's offset in the message, in bytes.
     pub at: usize,
-    // The place behind its line feed can still be counted.
+    // The offset after its line feed is still a number of the type.
     pub ghost countable: { at + length text.now + 1 < 2 ^ 64 },
 }
 
 impl<'a> Line<'a> {
     ghost use Rattle.telex.specs.Items.{placed_line};
 
-    /// The parts in order, cut at each dot and slash. A line with neither is a single part.
+    /// The parts in order, split at each dot and slash. A line with neither is a single part.
     pub fn elements(&self) -> Elements<'a>
         ensures parts { result ≡ parts_of (placed_line self.now) }
         ensures cut { ArePartsOf (placed_line self.now) result }
@@ -197,21 +201,21 @@ impl<'a> Line<'a> {
     }
 }
 
-/// What stands between two separators of a line.
+/// The bytes between two separators of a line.
 #[derive(Clone, Copy, Debug, PartialEq, Eq)]
 pub struct Part<'a> {
     /// The separator before the part, 0 for the first of a line.
     pub before: u8,
     /// The bytes, which may be none.
     pub text: &'a [u8],
-    /// How many bytes of the message stand before the part.
+    /// The part's offset in the message, in bytes.
     pub at: usize,
 }
 
 /// The parts of a line, in order.
 #[derive(Debug, Drop)]
 pub struct Elements<'a> {
-    // What no part was made of yet; none behind the last part.
+    // What has not been split yet; none after the last part.
     rest: Option<&'a [u8]>,
     before: u8,
     at: usize,

@@ -1,4 +1,4 @@
-// The office's three documents as one reads them by eye, the places of faults, and the way back from a builder.
+// The office's three documents split by hand, the offsets of faults, and texts of a builder read back.
 use crate::{Builder, LONGEST_LINE, Message, Part, TelexFault, cut};
 use desk_base::NoMemory;
 use std::alloc::Global;
@@ -24,7 +24,7 @@ MACZFW 25.79 MACTOW 25.23 MACLAW 25.74
 END
 ";
 
-// Each part behind the separator before it and the place where it begins.
+// Each part after the separator before it and its offset.
 const LOADSHEET_PARTS: &str = "0:LOADSHEET
 10:XX210 /16:12 .19:DAIAB .25:FRA .29:ARN
 33:EDNO 7
@@ -99,7 +99,7 @@ fn listed(alloc: Global, message: &Message<'_>) -> Result<Vec<u8>, NoMemory> {
 }
 
 #[test]
-fn documents_are_cut_as_one_reads_them(rt: HostRuntime) -> Result<(), Fail> {
+fn documents_are_split_into_their_parts(rt: HostRuntime) -> Result<(), Fail> {
     let rows = [
         (LOADSHEET, LOADSHEET_PARTS),
         (LDM, LDM_PARTS),
@@ -115,7 +115,7 @@ fn documents_are_cut_as_one_reads_them(rt: HostRuntime) -> Result<(), Fail> {
 }
 
 #[test]
-fn faults_stand_at_their_places(rt: HostRuntime) -> Result<(), Fail> {
+fn faults_have_their_offsets(rt: HostRuntime) -> Result<(), Fail> {
     let longest = vec![in rt.alloc(); b'A'; LONGEST_LINE]?;
     let longer = vec![in rt.alloc(); b'A'; LONGEST_LINE + 1]?;
     let mut out = Builder::new(rt.alloc());
@@ -158,7 +158,7 @@ fn faults_stand_at_their_places(rt: HostRuntime) -> Result<(), Fail> {
 }
 
 #[test]
-fn a_built_text_is_cut_into_what_was_put_in(rt: HostRuntime) -> Result<(), Fail> {
+fn a_built_text_is_read_back(rt: HostRuntime) -> Result<(), Fail> {
     let mut out = Builder::new(rt.alloc());
     out.text(b"DELTA")?;
     for n in [0, -7, 42, i64::MAX, i64::MIN] {

@@ -1,6 +1,7 @@
 //! Writing a message, piece by piece.
 ghost use Rattle.std.specs.Prelude.{◌≡◌, [], ◌∷◌, ◌++◌, OnOk, OnErr};
 ghost use Rattle.std.specs.Fmt.{signed_decimal};
+ghost use Rattle.telex.specs.Text.{line_feed};
 
 use crate::reading::LINE_FEED;
 use desk_base::NoMemory;
@@ -8,7 +9,7 @@ use itoa::Buffer;
 use std::alloc::Global;
 use std::marker::Model;
 
-/// A text in the making. What a call could not add for want of memory was not added at all.
+/// A text that is being written. A call that runs out of memory leaves it unchanged.
 #[derive(Debug, Drop)]
 pub struct Builder {
     bytes: Vec<u8>,
@@ -23,7 +24,7 @@ impl Model for Builder {
 }
 
 impl Builder {
-    /// An empty text. It takes no memory yet.
+    /// An empty text. It allocates nothing yet.
     pub fn new(alloc: Global) -> Builder
         ensures { result ≡ [] }
     {
@@ -32,7 +33,7 @@ impl Builder {
         }
     }
 
-    /// Adds a piece as it stands.
+    /// Appends a piece unchanged.
     pub fn text(&mut self, piece: &[u8]) -> Result<(), NoMemory>
         ensures added { OnOk result (self.new ≡ self.old ++ piece.now) }
         ensures kept { OnErr result (self.new ≡ self.old) }
@@ -41,7 +42,7 @@ impl Builder {
         Ok(())
     }
 
-    /// Adds a number in decimal, with a minus sign before one below zero.
+    /// Appends a number in decimal, with a minus sign if it is below zero.
     pub fn number(&mut self, n: i64) -> Result<(), NoMemory>
         ensures added { OnOk result (self.new ≡ self.old ++ signed_decimal n) }
         ensures kept { OnErr result (self.new ≡ self.old) }
@@ -52,13 +53,13 @@ impl Builder {
 
     /// Ends the line.
     pub fn end_line(&mut self) -> Result<(), NoMemory>
-        ensures added { OnOk result (self.new ≡ self.old ++ LINE_FEED ∷ []) }
+        ensures added { OnOk result (self.new ≡ self.old ++ line_feed ∷ []) }
         ensures kept { OnErr result (self.new ≡ self.old) }
     {
         self.text(&[LINE_FEED])
     }
 
-    /// The bytes that were added, in order.
+    /// The bytes that were appended, in order.
     pub fn finish(self) -> Vec<u8>
         ensures { result.items ≡ self }
     {
