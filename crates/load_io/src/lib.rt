@@ -1,12 +1,12 @@
-//! The outside of the program behind traits: a [`Sink`] takes bytes, and a [`Shelf`] gives files by name.
+//! The outside of the program behind traits: a [`Sink`] takes bytes, and a [`Shelf`] provides files by name.
 //!
-//! For proofs alone, an object of such a trait tells what it holds, where it tells it at all, and how
-//! many of its calls have failed. A failure is answered only by a call in which that number rose, and
-//! code over these traits cannot raise it: so it cannot answer a failure that did not happen.
+//! To contracts, an object of such a trait exposes how many of its calls have failed and, unless it keeps
+//! them hidden, its contents. A call returns a failure only if that number rose, and code over these traits
+//! cannot raise it: so it cannot report a failure that did not happen.
 //!
-//! Each trait has three forms. One stands in memory, and its calls fail where a list of call numbers says
-//! so. One never fails. One is the real thing, which tells nothing of what it holds: that a real file or
-//! the standard output behaves as its trait says is not proved.
+//! Each trait has three implementations. One is in memory, and its calls fail at the numbers of a list. One
+//! never fails. One is the real thing, whose contents are hidden: that a real file or the standard output
+//! behaves as its trait says is tested and not proved.
 #![tactic(auto)]
 
 mod calls;
@@ -21,7 +21,9 @@ pub use sinks::memory::MemorySink;
 pub use sinks::standard::StdSink;
 pub use sinks::sure::SureSink;
 pub use sinks::{Sink, write_all};
+use thiserror::Error;
 
-/// A fault of an object outside the program. The call that answered it moved, appended and took nothing.
-#[derive(Clone, Copy, Debug, PartialEq, Eq)]
+/// A failed call of an object outside the program, which changed nothing.
+#[derive(Clone, Copy, Debug, PartialEq, Eq, Error)]
+#[error("a call outside the program failed")]
 pub struct Failed;
