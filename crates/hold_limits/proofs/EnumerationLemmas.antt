@@ -11,18 +11,21 @@ use Rattle.std.specs.Prelude.{int_le, All, Any, AllPairs, MatchOption, IsSomeAnd
 use Rattle.std.specs.Bool.{Decides}
 use Rattle.std.specs.List.{AllByRecursion, list_all, list_any, range_with_len}
 use Rattle.std.specs.Option.{option_map_or}
-use Rattle.hold_limits.specs.declared.lists.Fit.{Fit}
-use Rattle.hold_limits.specs.declared.parts.Combined.{Combined}
-use Rattle.hold_limits.specs.declared.parts.Cumulative.{Cumulative}
-use Rattle.hold_limits.specs.declared.parts.Item.{Item}
-use Rattle.hold_limits.specs.declared.parts.Position.{Position}
+use Rattle.hold_parts.specs.declared.lists.Fit.{Fit}
+use Rattle.hold_parts.specs.declared.parts.Combined.{Combined}
+use Rattle.hold_parts.specs.declared.parts.Cumulative.{Cumulative}
+use Rattle.hold_parts.specs.declared.parts.Item.{Item}
+use Rattle.hold_parts.specs.declared.parts.Position.{Position}
 use Rattle.hold_limits.specs.Layout.{Layout}
 use Rattle.hold_limits.specs.Problem.{Problem}
-use Rattle.hold_limits.specs.Placement.{Placed, placed, kind_of, Accepts, IsAccepted, Exclude, load_of, is_listed, is_counted, IsSound, hold_index, IsAdmissible, key, key_cmp, IsAtMost, IsBest}
-use Rattle.hold_limits.specs.Enumeration.{list_all_pairs, accepts, is_accepted, exclude, keeps_limits, is_sound, is_admissible, all_paths, candidates, better, best_among, best_by_trial}
+use Rattle.hold_limits.specs.Placement.{Placed, placed, IsAccepted, Exclude, load_of, IsSound, hold_index, IsAdmissible, key, key_cmp, IsAtMost, IsBest}
+use Rattle.hold_parts.specs.Limits.{is_listed, is_counted}
+use Rattle.hold_parts.specs.Accepting.{kind_of, Accepts, accepts}
+use Rattle.hold_limits.specs.Enumeration.{list_all_pairs, is_accepted, exclude, keeps_limits, is_sound, is_admissible, all_paths, candidates, better, best_among, best_by_trial}
 use Rattle.hold_limits.proofs.KeyOrder.{IsAtMost-refl, IsAtMost-trans, IsAtMost-from_greater}
-use Rattle.hold_limits.proofs.PairLemmas.{AllPairs-head, AllPairs-tail}
+use Rattle.desk_base.proofs.PairLemmas.{AllPairs-head, AllPairs-tail}
 use Rattle.hold_limits.proofs.SoundLemmas.{IsSound-within}
+use Rattle.desk_base.proofs.PairLemmas.{each-weaker}
 
 -- Tests on lists --------------------------------------------------------------------------------
 
@@ -63,12 +66,12 @@ IsSomeAnd-Decides p P each (Some x) = each x
 
 -- Tests on prefixes -----------------------------------------------------------------------------
 
-accepts-Decides : (item : Item) (place : Position) → Decides (accepts item place) (Accepts item place)
-accepts-Decides item place = Any-Decides
+accepts-Decides : (item : Item) (position : Position) → Decides (accepts item position) (Accepts item position)
+accepts-Decides item position = Any-Decides
     (λ (fit : Fit). bytes_eq fit.kind (kind_of item) && nat_le item.mass.0 fit.most.0)
     (λ (fit : Fit). (fit.kind ≡ kind_of item) × (item.mass.0 ≤ fit.most.0))
     (λ fit. Decides-and _ _ (bytes_eq-Decides fit.kind (kind_of item)) (nat_le-Decides item.mass.0 fit.most.0))
-    place.fits
+    position.fits
 
 pub is_accepted-Decides : (hold : Layout) (p : Placed) → Decides (is_accepted hold p) (IsAccepted hold p)
 is_accepted-Decides hold p = IsSomeAnd-Decides (accepts p.0) (Accepts p.0) (accepts-Decides p.0) (slice_get hold.positions p.1)
@@ -174,14 +177,10 @@ IsKept : Problem → List (List ℕ) → Option (List ℕ) → Type 0
 IsKept t paths None = AllByRecursion (λ path. IsAdmissible t path → ⊥) paths
 IsKept t paths (Some best) = IsAdmissible t best × AllByRecursion (λ path. IsAdmissible t path → IsAtMost (key t best) (key t path)) paths
 
-each-weaker : {X : Type 0} (P Q : X → Type 0) (weaker : (x : X) → P x → Q x) (xs : List X) → AllByRecursion P xs → AllByRecursion Q xs
-each-weaker P Q weaker [] each = each
-each-weaker P Q weaker (x ∷ xs) each = (weaker x each.0, each-weaker P Q weaker xs each.1)
-
-passed_over : (t : Problem) (path : List ℕ) (rest : List (List ℕ)) (best : Option (List ℕ)) → (IsAdmissible t path → ⊥) → IsKept t rest best → IsKept t (path ∷ rest) best
+skipped : (t : Problem) (path : List ℕ) (rest : List (List ℕ)) (best : Option (List ℕ)) → (IsAdmissible t path → ⊥) → IsKept t rest best → IsKept t (path ∷ rest) best
 unfolding IsKept
-passed_over t path rest None not kept = (not, kept)
-passed_over t path rest (Some best) not kept = (kept.0, (λ adm. absurd (not adm), kept.1))
+skipped t path rest None not kept = (not, kept)
+skipped t path rest (Some best) not kept = (kept.0, (λ adm. absurd (not adm), kept.1))
 
 taken : (t : Problem) (path : List ℕ) (rest : List (List ℕ)) (best : Option (List ℕ)) → IsAdmissible t path → IsKept t rest best → IsKept t (path ∷ rest) (Some (option_map_or (better t path) best path))
 unfolding IsKept
@@ -210,7 +209,7 @@ unfolding best_among IsKept
 best_among-kept t [] = tt
 best_among-kept t (path ∷ rest) = ⊎_elim
     (λ (is : is_admissible t path ≡ true). rw is (taken t path rest (best_among t rest) ((is_admissible-Decides t path).0 is) (best_among-kept t rest)))
-    (λ (not : is_admissible t path ≡ false). rw not (passed_over t path rest (best_among t rest) (not_from_Decides (is_admissible t path) (is_admissible-Decides t path) not) (best_among-kept t rest)))
+    (λ (not : is_admissible t path ≡ false). rw not (skipped t path rest (best_among t rest) (not_from_Decides (is_admissible t path) (is_admissible-Decides t path) not) (best_among-kept t rest)))
     (cases_Bool (is_admissible t path))
 
 kept-is : (t : Problem) (best : Option (List ℕ)) → IsKept t (candidates t) best → MatchOption best ((path : List ℕ) → IsAdmissible t path → ⊥) (IsBest t)

@@ -1,60 +1,47 @@
--- what a lawful hold and a lawful task keep
-use Rattle.std.proofs.Common.{◌≡◌, ◌≢◌, ⊎_elim, ℕ, Bool, not, if◌then◌else◌, Some, zero, suc, ◌<◌, ◌≤◌, ℤ, ◌≤ℤ◌, true, false, ◌==◌, ◌||◌, nat_lt, List, [], ◌∷◌, ◌++◌, length, take, get_or, map, Option, None, option_map, refl, ap, sym, ◌∙◌, subst, arith, eqb, unsigned_abs, int_lt}
-use Rattle.std.proofs.Math.Seq.{take-suc}
-use Rattle.std.proofs.lemmas.Bool.{false≢true, ltb-false, eqb-true, or_cases, not-false}
-use Rattle.std.proofs.lemmas.Bool.Decides.{nat_tests}
-use Rattle.std.proofs.lemmas.Cmp.{nat_eq_equiv}
+-- a hold and a task have no fault exactly where they keep the rules
+use Rattle.std.proofs.Common.{◌≡◌, ◌≢◌, ⊎_elim, ℕ, Bool, not, if◌then◌else◌, ◌<◌, ◌≤◌, ℤ, ◌≤ℤ◌, true, false, ◌==◌, ◌||◌, ◌&&◌, nat_lt, List, [], ◌∷◌, length, take, zip, get_or, map, Some, None, refl, sym, subst, arith, eqb, unsigned_abs, int_lt, bytes_eq}
+use Rattle.std.proofs.lemmas.Bool.{false≢true, eqb-true, or_cases, ltb-true}
+use Rattle.std.proofs.lemmas.Bool.Decides.{Decides-eqb, Decides-and, Decides-or, Decides-ltb}
 use Rattle.std.proofs.lemmas.Int.{ints}
-use Rattle.std.proofs.lemmas.List.{take_all, get_or-take, length-take, map-append, length-map}
-use Rattle.std.proofs.lemmas.List.Elements.{All-weaker, All-head, All-tail, All-map, All-from_recursion}
-use Rattle.std.proofs.lemmas.Map.Keys.{IsDistinct-push}
+use Rattle.std.proofs.lemmas.List.{get_or-take, length-take, length-map}
+use Rattle.std.proofs.lemmas.List.Elements.{All-weaker, All-head, All-tail, All-map, All-from_recursion, recursion_from_All}
+use Rattle.std.proofs.lemmas.List.Kept.{AllPairs-cons}
 use Rattle.std.proofs.lemmas.Map.Steps.{length-le_from_distinct_below}
 use Rattle.std.proofs.lemmas.Slice.Eq.{bytes_eq-Decides}
 use Rattle.std.proofs.lemmas.Option.{slice_get_cases, slice_get-get_or}
-use Rattle.std.specs.Prelude.{All, AllPairs, position, slice_get, is_some}
-use Rattle.std.specs.List.{list_any, AllByRecursion, IsDistinct}
-use Rattle.std.specs.Option.{option_or}
+use Rattle.std.specs.Bool.{Decides}
+use Rattle.std.specs.Prelude.{◌↔◌, All, AllPairs, slice_get, is_some}
+use Rattle.std.specs.List.{list_any, list_all, AllByRecursion, IsDistinct}
 use Rattle.desk_base.specs.Lists.{first_repeat}
-use Rattle.hold_limits.specs.declared.fault.HoldFault.{HoldFault}
-use Rattle.hold_limits.specs.declared.fault.HoldFault.TheVariants as hold
-use Rattle.hold_limits.specs.declared.fault.TaskFault.{TaskFault}
-use Rattle.hold_limits.specs.declared.fault.TaskFault.TheVariants as task
-use Rattle.hold_limits.specs.declared.parts.Position.{Position}
-use Rattle.hold_limits.specs.declared.parts.Item.{Item}
-use Rattle.hold_limits.specs.declared.parts.Loose.{Loose}
-use Rattle.hold_limits.specs.Problem.{Problem}
-use Rattle.hold_limits.specs.declared.lists.Fit.{Fit}
-use Rattle.hold_limits.specs.declared.parts.Combined.{Combined}
-use Rattle.hold_limits.specs.declared.parts.Cumulative.{Cumulative}
+use Rattle.desk_base.proofs.PairLemmas.{each-weaker, pairs-all, AllPairs-head, AllPairs-tail}
+use Rattle.hold_parts.specs.declared.parts.Position.{Position}
+use Rattle.hold_parts.specs.declared.parts.Item.{Item}
+use Rattle.hold_parts.specs.declared.parts.Loose.{Loose}
+use Rattle.hold_parts.specs.declared.parts.Combined.{Combined}
+use Rattle.hold_parts.specs.declared.parts.Cumulative.{Cumulative}
+use Rattle.hold_parts.specs.declared.lists.Fit.{Fit}
+use Rattle.hold_parts.specs.Repeats.{same_name, same_kind, same_id, same_position}
 use Rattle.hold_limits.specs.Layout.{Layout}
-use Rattle.hold_limits.specs.Bounds.{HasItsKinds, HoldBounds, LawfulBounds}
-use Rattle.hold_limits.specs.Faults.{IsLawful, IsLawfulHold, position_fault, limit_fault, item_fault, loose_fault, range_fault, fault_if, has_wrong_number, same_name, has_wrong_influence, has_wrong_fits, has_wrong_fit_mass, has_wrong_mass, same_kind, has_too_many, is_unknown, has_wrong_places, same_pair, is_wrong_exclude_at, wrong_exclude, is_rising, is_wrong_combined, is_wrong_cumulative, same_id, is_too_heavy, is_bulk, is_loose_misplaced, same_place, is_loose_too_heavy, is_over_index}
-use Rattle.hold_limits.proofs.FaultLemmas.{option_or-none, fault_if-none, option_map-none, position-none, first_below-none_each, first_repeat-none}
+use Rattle.hold_limits.specs.Problem.{Problem}
+use Rattle.hold_limits.specs.Bounds.{HasUpTo16Kinds, IsContainerMass, SamePair, KeepsHoldRules, KeepsTaskRules}
+use Rattle.hold_limits.specs.Faults.{IsLawful, IsLawfulHold, hold_fault, position_fault, limit_fault, item_fault, loose_fault, range_fault, task_fault, has_wrong_influence, has_wrong_fits, has_wrong_fit_mass, has_wrong_mass, is_unknown, same_pair, is_wrong_exclude, is_wrong_exclude_at, wrong_exclude, is_rising, is_wrong_combined, is_wrong_cumulative, is_too_heavy, is_bulk, is_loose_misplaced, is_loose_too_heavy}
+use Rattle.hold_limits.proofs.FaultLemmas.{Refuses, Guards, refuses-like, refuses-over, refuses-zero, refuses-past, refuses-if, refuses-unless, refuses-either, refuses-any, refuses-some, guards-if, guards-map, guards-or, guards-position, guards-repeat, first_below-none_each, first_below-right}
 
 -- Loose loads -----------------------------------------------------------------------------------
 
--- each load stands on another position than all before it
-abbrev Apart : List Loose → Type 0
-Apart loose = (k : ℕ) (d : Loose) → k < length loose → list_any (same_place (get_or loose k d)) (take k loose) ≡ false
+abbrev HasPosition : Loose → Loose → Type 0
+HasPosition a b = a.position ≢ b.position
 
-abbrev places : List Loose → List ℕ
-places loose = map (λ (load : Loose). load.position) loose
+abbrev loose_places : List Loose → List ℕ
+loose_places loose = map (λ (load : Loose). load.position) loose
 
-places-any : (load : Loose) (loose : List Loose) → list_any (eqb load.position) (places loose) ≡ list_any (same_place load) loose
-places-any load [] = refl
-places-any load (other ∷ loose) = ap (λ b. eqb load.position other.position || b) (places-any load loose)
-
-distinct-front : (loose : List Loose) (d : Loose) → Apart loose → (n : ℕ) → n ≤ length loose → IsDistinct eqb (places (take n loose))
+places-distinct : (loose : List Loose) → AllPairs HasPosition loose → IsDistinct eqb (loose_places loose)
 unfolding IsDistinct
-distinct-front loose d apart zero within = tt
-distinct-front loose d apart (suc n) within =
-    let last : Loose = get_or loose n d in
-    let fewer : IsDistinct eqb (places (take n loose)) = distinct-front loose d apart n (omega arith) in
-    let other : list_any (eqb last.position) (places (take n loose)) ≡ false = places-any last (take n loose) ∙ apart n d (omega arith) in
-    let more : places (take (suc n) loose) ≡ places (take n loose) ++ last.position ∷ [] =
-    ap places (take-suc loose n d (omega arith)) ∙ map-append (λ (load : Loose). load.position) (take n loose) (last ∷ []) in
-    let P : List ℕ → Type 0 = λ xs. IsDistinct eqb xs in
-    subst P (sym more) (IsDistinct-push nat_eq_equiv (places (take n loose)) last.position fewer other)
+places-distinct [] apart = tt
+places-distinct (load ∷ loose) apart =
+    let others : All (λ (other : Loose). eqb load.position other.position ≡ false) loose =
+    All-weaker (HasPosition load) (λ other. eqb load.position other.position ≡ false) (λ other. (refuses-if (eqb load.position other.position) (Decides-eqb load.position other.position)).1) loose (AllPairs-head HasPosition load loose apart) in
+    (recursion_from_All (λ q. eqb load.position q ≡ false) (loose_places loose) (All-map (λ q. eqb load.position q ≡ false) (λ (other : Loose). other.position) loose others), places-distinct loose (AllPairs-tail HasPosition load loose apart))
 
 any-below : (xs : List ℕ) (n : ℕ) → All (λ x. x < n) xs → (q : ℕ) → list_any (eqb q) xs ≡ true → q < n
 any-below [] n all q found = absurd (false≢true found)
@@ -64,15 +51,11 @@ any-below (x ∷ xs) n all q found = ⊎_elim
     (or_cases (eqb q x) (list_any (eqb q) xs) found)
 
 -- loads with positions of their own below n are at most n
-loose-few : (loose : List Loose) (n : ℕ) → Apart loose → All (λ (load : Loose). load.position < n) loose → length loose ≤ n
-loose-few [] n apart known = omega arith
-loose-few (load ∷ loose) n apart known =
-    let all = load ∷ loose in
-    let P : List Loose → Type 0 = λ ls. IsDistinct eqb (places ls) in
-    let distinct : IsDistinct eqb (places all) = subst P (take_all (length all) all (omega arith)) (distinct-front all load apart (length all) (omega arith)) in
-    let below = any-below (places all) n (All-map (λ x. x < n) (λ (load : Loose). load.position) all known) in
-    let few : length (places all) ≤ n = length-le_from_distinct_below (places all) n distinct below in
-    omega (arith, length-map all (λ (load : Loose). load.position))
+loose-few : (loose : List Loose) (n : ℕ) → AllPairs HasPosition loose → All (λ (load : Loose). load.position < n) loose → length loose ≤ n
+loose-few loose n apart known =
+    let below = any-below (loose_places loose) n (All-map (λ x. x < n) (λ (load : Loose). load.position) loose known) in
+    let few : length (loose_places loose) ≤ n = length-le_from_distinct_below (loose_places loose) n (places-distinct loose apart) below in
+    omega (arith, length-map loose (λ (load : Loose). load.position))
 
 bulk-known : (positions : List Position) (q : ℕ) → is_bulk positions q ≡ true → q < length positions
 bulk-known positions q bulk = ⊎_elim
@@ -80,241 +63,310 @@ bulk-known positions q bulk = ⊎_elim
     (λ past. absurd (false≢true (rw past.1 at bulk)))
     (slice_get_cases positions q).1
 
--- The tests of each list --------------------------------------------------------------------------
+-- Rules of positions ----------------------------------------------------------------------------
 
--- each position has another name than all before it
-abbrev HaveNames : List Position → Type 0
-HaveNames positions = (k : ℕ) (d : Position) → k < length positions → list_any (same_name (get_or positions k d)) (take k positions) ≡ false
+abbrev HasName : Position → Position → Type 0
+HasName a b = a.name ≢ b.name
 
-abbrev PositionFacts : List Position → Type 0
-PositionFacts positions =
-    (has_wrong_number positions ≡ false)
-    × HaveNames positions
-    × All (λ place. has_wrong_influence place ≡ false) positions
-    × All (λ place. has_wrong_fits place ≡ false) positions
-    × All (λ place. has_wrong_fit_mass place ≡ false) positions
+abbrev DifferentKinds : Fit → Fit → Type 0
+DifferentKinds a b = a.kind ≢ b.kind
 
-position-facts : (positions : List Position) → position_fault positions ≡ None → PositionFacts positions
-position-facts positions none =
-    let at_number : Option HoldFault = fault_if (has_wrong_number positions) (hold.Positions (length positions)) in
-    let at_name : Option HoldFault = option_map hold.SameName (first_repeat same_name positions) in
-    let at_influence : Option HoldFault = option_map hold.Influence (position has_wrong_influence positions) in
-    let at_fits : Option HoldFault = option_map hold.Fits (position has_wrong_fits positions) in
-    let at_mass : Option HoldFault = option_map hold.FitMass (position has_wrong_fit_mass positions) in
-    let from_name : Option HoldFault = option_or at_name (option_or at_influence (option_or at_fits at_mass)) in
-    let number = option_or-none at_number from_name none in
-    let name = option_or-none at_name (option_or at_influence (option_or at_fits at_mass)) number.1 in
-    let influence = option_or-none at_influence (option_or at_fits at_mass) name.1 in
-    let fits = option_or-none at_fits at_mass influence.1 in (
-      fault_if-none (has_wrong_number positions) (hold.Positions (length positions)) number.0,
-      first_repeat-none same_name positions (option_map-none hold.SameName (first_repeat same_name positions) name.0),
-      position-none has_wrong_influence positions (option_map-none hold.Influence (position has_wrong_influence positions) influence.0),
-      position-none has_wrong_fits positions (option_map-none hold.Fits (position has_wrong_fits positions) fits.0),
-      position-none has_wrong_fit_mass positions (option_map-none hold.FitMass (position has_wrong_fit_mass positions) fits.1),
-    )
+-- texts that are not the same, either way round
+bytes-differ : (a b : List ℕ) → Refuses (bytes_eq b a) (a ≢ b)
+bytes-differ a b = refuses-like (bytes_eq b a) (λ differ is. differ (sym is)) (λ differ is. differ (sym is)) (refuses-if (bytes_eq b a) (bytes_eq-Decides b a))
 
--- each excluding pair, combined limit and cumulative limit passes its test
-abbrev LimitFacts : Layout → Type 0
-LimitFacts h =
-    ((k : ℕ) → k < length h.excludes → is_wrong_exclude_at h.positions h.excludes k ≡ false)
-    × All (λ limit. is_wrong_combined h.positions limit ≡ false) h.combined
-    × All (λ limit. is_wrong_cumulative h.positions limit ≡ false) h.cumulative
+empty-Decides : (fits : List Fit) → Decides (length fits == 0) (fits ≡ [])
+empty-Decides [] = (λ _. refl, λ _. refl)
+empty-Decides (fit ∷ fits) = (λ is. absurd (omega (arith, eqb-true (length (fit ∷ fits)) 0 is)), λ is. absurd (cc))
 
-limit-facts : (h : Layout) → limit_fault h ≡ None → LimitFacts h
-limit-facts h none =
-    let at_number : Option HoldFault = fault_if (has_too_many h.excludes h.combined h.cumulative) hold.TooMany in
-    let at_exclude : Option HoldFault = option_map hold.Exclude (wrong_exclude h.positions h.excludes) in
-    let at_combined : Option HoldFault = option_map hold.Combined (position (is_wrong_combined h.positions) h.combined) in
-    let at_cumulative : Option HoldFault = option_map hold.Cumulative (position (is_wrong_cumulative h.positions) h.cumulative) in
-    let number = option_or-none at_number (option_or at_exclude (option_or at_combined at_cumulative)) none in
-    let exclude = option_or-none at_exclude (option_or at_combined at_cumulative) number.1 in
-    let combined = option_or-none at_combined at_cumulative exclude.1 in (
-      first_below-none_each (is_wrong_exclude_at h.positions h.excludes) (length h.excludes) (option_map-none hold.Exclude (wrong_exclude h.positions h.excludes) exclude.0),
-      position-none (is_wrong_combined h.positions) h.combined (option_map-none hold.Combined (position (is_wrong_combined h.positions) h.combined) combined.0),
-      position-none (is_wrong_cumulative h.positions) h.cumulative (option_map-none hold.Cumulative (position (is_wrong_cumulative h.positions) h.cumulative) combined.1),
-    )
+again-rule : (fits : List Fit) → Refuses (is_some (first_repeat same_kind fits)) (AllPairs DifferentKinds fits)
+again-rule fits = refuses-some (first_repeat same_kind fits) (guards-repeat same_kind DifferentKinds (λ a b. bytes-differ a.kind b.kind) fits)
 
-abbrev ItemBounds : List Item → Type 0
-ItemBounds items = (nat_lt 48 (length items) ≡ false) × All (λ item. is_too_heavy item ≡ false) items
+abbrev KindRules : Bool → List Fit → Type 0
+KindRules bulk fits = HasUpTo16Kinds bulk fits × AllPairs DifferentKinds fits
 
-item-bounds : (items : List Item) → item_fault items ≡ None → ItemBounds items
-item-bounds items none =
-    let at_number : Option TaskFault = fault_if (nat_lt 48 (length items)) task.TooManyItems in
-    let at_id : Option TaskFault = option_map task.DuplicateId (first_repeat same_id items) in
-    let at_mass : Option TaskFault = option_map task.ItemTooHeavy (position is_too_heavy items) in
-    let number = option_or-none at_number (option_or at_id at_mass) none in
-    let id = option_or-none at_id at_mass number.1 in (
-      fault_if-none (nat_lt 48 (length items)) task.TooManyItems number.0,
-      position-none is_too_heavy items (option_map-none task.ItemTooHeavy (position is_too_heavy items) id.1),
-    )
+kinds-rule : (bulk : Bool) (fits : List Fit)
+    → Refuses (if bulk then not (length fits == 0) else (length fits == 0) || (nat_lt 16 (length fits) || is_some (first_repeat same_kind fits))) (KindRules bulk fits)
+kinds-rule true fits = refuses-like _
+    (λ (none : fits ≡ []).
+    let P : List Fit → Type 0 = AllPairs DifferentKinds in
+    (none, subst P (sym none) (λ i j d before within. absurd (omega arith))))
+    (λ kept. kept.0)
+    (refuses-unless (length fits == 0) (empty-Decides fits))
+kinds-rule false fits = refuses-like _
+    (λ kept. ((kept.0, kept.1.0), kept.1.1))
+    (λ kept. (kept.0.0, (kept.0.1, kept.1)))
+    (refuses-either _ _ (refuses-zero (length fits)) (refuses-either _ _ (refuses-over 16 (length fits)) (again-rule fits)))
 
-abbrev LooseFacts : List Position → List Loose → Type 0
-LooseFacts positions loose =
-    All (λ load. is_loose_misplaced positions load ≡ false) loose × Apart loose × All (λ load. is_loose_too_heavy load ≡ false) loose
+mass-rule : (fit : Fit) → Refuses (has_wrong_mass fit) (IsContainerMass fit)
+mass-rule fit = refuses-either (fit.most.0 == 0) (nat_lt 20000 fit.most.0) (refuses-zero fit.most.0) (refuses-over 20000 fit.most.0)
 
-loose-facts : (positions : List Position) (loose : List Loose) → loose_fault positions loose ≡ None → LooseFacts positions loose
-loose-facts positions loose none =
-    let at_place : Option TaskFault = option_map task.LooseNotBulk (position (is_loose_misplaced positions) loose) in
-    let at_twice : Option TaskFault = option_map task.LooseTwice (first_repeat same_place loose) in
-    let at_mass : Option TaskFault = option_map task.LooseTooHeavy (position is_loose_too_heavy loose) in
-    let place = option_or-none at_place (option_or at_twice at_mass) none in
-    let twice = option_or-none at_twice at_mass place.1 in (
-      position-none (is_loose_misplaced positions) loose (option_map-none task.LooseNotBulk (position (is_loose_misplaced positions) loose) place.0),
-      first_repeat-none same_place loose (option_map-none task.LooseTwice (first_repeat same_place loose) twice.0),
-      position-none is_loose_too_heavy loose (option_map-none task.LooseTooHeavy (position is_loose_too_heavy loose) twice.1),
-    )
+abbrev PositionRules : List Position → Type 0
+PositionRules positions =
+    ((1 ≤ length positions) × (length positions ≤ 64))
+    × (AllPairs HasName positions
+    × (All (λ (p : Position). unsigned_abs p.influence ≤ 100000) positions
+    × (All (λ (p : Position). KindRules p.bulk p.fits) positions
+    × All (λ (p : Position). All IsContainerMass p.fits) positions)))
 
-abbrev RangeFacts : ℤ → ℤ → ℤ → ℤ → ℤ → Type 0
-RangeFacts base low high ideal_low ideal_high =
-    (is_over_index base ≡ false) × (is_over_index low ≡ false) × (is_over_index high ≡ false) × (is_over_index ideal_low ≡ false) × (is_over_index ideal_high ≡ false) × (int_lt ideal_high ideal_low ≡ false)
+position_fault-guards : (positions : List Position) → Guards (position_fault positions) (PositionRules positions)
+position_fault-guards positions =
+    guards-or _ _ (guards-if _ _ (refuses-either _ _ (refuses-zero (length positions)) (refuses-over 64 (length positions))))
+    (guards-or _ _ (guards-map _ _ (guards-repeat same_name HasName (λ a b. bytes-differ a.name b.name) positions))
+    (guards-or _ _ (guards-map _ _ (guards-position has_wrong_influence (λ (p : Position). unsigned_abs p.influence ≤ 100000) (λ p. refuses-over 100000 (unsigned_abs p.influence)) positions))
+    (guards-or _ _ (guards-map _ _ (guards-position has_wrong_fits (λ (p : Position). KindRules p.bulk p.fits) (λ p. kinds-rule p.bulk p.fits) positions))
+    (guards-map _ _ (guards-position has_wrong_fit_mass (λ (p : Position). All IsContainerMass p.fits) (λ p. refuses-any has_wrong_mass IsContainerMass mass-rule p.fits) positions)))))
 
-range-facts : (base low high ideal_low ideal_high : ℤ) → range_fault base low high ideal_low ideal_high ≡ None → RangeFacts base low high ideal_low ideal_high
-range-facts base low high ideal_low ideal_high none =
-    let crossed : Option ℕ = fault_if (int_lt ideal_high ideal_low) 6 in
-    let from_5 : Option ℕ = option_or (fault_if (is_over_index ideal_high) 5) crossed in
-    let from_4 : Option ℕ = option_or (fault_if (is_over_index ideal_low) 4) from_5 in
-    let from_3 : Option ℕ = option_or (fault_if (is_over_index high) 3) from_4 in
-    let from_2 : Option ℕ = option_or (fault_if (is_over_index low) 2) from_3 in
-    let p1 = option_or-none (fault_if (is_over_index base) 1) from_2 none in
-    let p2 = option_or-none (fault_if (is_over_index low) 2) from_3 p1.1 in
-    let p3 = option_or-none (fault_if (is_over_index high) 3) from_4 p2.1 in
-    let p4 = option_or-none (fault_if (is_over_index ideal_low) 4) from_5 p3.1 in
-    let p5 = option_or-none (fault_if (is_over_index ideal_high) 5) crossed p4.1 in (
-      fault_if-none (is_over_index base) 1 p1.0,
-      fault_if-none (is_over_index low) 2 p2.0,
-      fault_if-none (is_over_index high) 3 p3.0,
-      fault_if-none (is_over_index ideal_low) 4 p4.0,
-      fault_if-none (is_over_index ideal_high) 5 p5.0,
-      fault_if-none (int_lt ideal_high ideal_low) 6 p5.1,
-    )
+-- Rules of limits -------------------------------------------------------------------------------
 
--- All bounds ------------------------------------------------------------------------------------
+same_pair-Decides : (a b : ℕ × ℕ) → Decides (same_pair a b) (SamePair a b)
+same_pair-Decides a b = Decides-or _ _
+    (Decides-and _ _ (Decides-eqb a.0 b.0) (Decides-eqb a.1 b.1))
+    (Decides-and _ _ (Decides-eqb a.0 b.1) (Decides-eqb a.1 b.0))
 
-number-bounds : (n : ℕ) → ((n == 0) || nat_lt 64 n) ≡ false → (0 < n) × (n ≤ 64)
-number-bounds n right = grind (arith, nat_tests)
+abbrev PairRules : List Position → ℕ × ℕ → Type 0
+PairRules positions pair =
+    (pair.0 ≢ pair.1)
+    × ((pair.0 < length positions)
+    × ((pair.1 < length positions)
+    × ((is_bulk positions pair.0 ≡ false) × (is_bulk positions pair.1 ≡ false))))
 
-band-order : (low high : ℤ) → int_lt high low ≡ false → low ≤ℤ high
-band-order low high right = grind (arith, ints)
+abbrev IsNew : ℕ × ℕ → ℕ × ℕ → Type 0
+IsNew earlier later = SamePair later earlier → ⊥
 
-or-parts : (a b : Bool) → (a || b) ≡ false → (a ≡ false) × (b ≡ false)
-or-parts false b none = (refl, none)
-or-parts true b none = absurd (cc)
+pair-rule : (positions : List Position) (earlier : List (ℕ × ℕ)) (pair : ℕ × ℕ) → Refuses (is_wrong_exclude positions earlier pair) (PairRules positions pair × All (λ e. IsNew e pair) earlier)
+pair-rule positions earlier pair = refuses-either _ _
+    (refuses-either _ _ (refuses-if (pair.0 == pair.1) (Decides-eqb pair.0 pair.1))
+    (refuses-either _ _ (refuses-past (length positions) pair.0)
+    (refuses-either _ _ (refuses-past (length positions) pair.1)
+    (refuses-either _ _ (λ right. right, λ kept. kept) (λ right. right, λ kept. kept)))))
+    (refuses-any (same_pair pair) (λ e. IsNew e pair) (λ e. refuses-if (same_pair pair e) (same_pair-Decides pair e)) earlier)
 
-list_any-false : {X : Type 0} (p : X → Bool) (xs : List X) → list_any p xs ≡ false → All (λ x. p x ≡ false) xs
-list_any-false {X} p xs none = All-from_recursion (λ x. p x ≡ false) xs (each xs none)
+exclude-guards : (positions : List Position) (excludes : List (ℕ × ℕ)) → Guards (wrong_exclude positions excludes) (All (PairRules positions) excludes × AllPairs IsNew excludes)
+exclude-guards positions excludes = (λ none. (λ k d within. (each none k d within).0, apart none), λ kept. right excludes kept.0 kept.1)
   where
-    each : (xs : List X) → list_any p xs ≡ false → AllByRecursion (λ x. p x ≡ false) xs
-    each [] none = tt
-    each (x ∷ xs) none =
-        let parts = or-parts (p x) (list_any p xs) none in
-        (parts.0, each xs parts.1)
+    each : wrong_exclude positions excludes ≡ None → (k : ℕ) (d : ℕ × ℕ) → k < length excludes → PairRules positions (get_or excludes k d) × All (λ e. IsNew e (get_or excludes k d)) (take k excludes)
+    each none k d within =
+        let pair : ℕ × ℕ = get_or excludes k d in
+        let there : slice_get excludes k ≡ Some pair = slice_get-get_or excludes k d within in
+        let passes : is_wrong_exclude positions (take k excludes) pair ≡ false = rw there at (first_below-none_each (is_wrong_exclude_at positions excludes) (length excludes) none k within) in
+        (pair-rule positions (take k excludes) pair).0 passes
 
-names-differ : (positions : List Position) → HaveNames positions → AllPairs (λ (a b : Position). a.name ≢ b.name) positions
-names-differ positions names i j d before within same =
-    let b : Position = get_or positions j d in
-    let at : get_or (take j positions) i d ≡ get_or positions i d = get_or-take j positions i d before in
-    let inside : i < length (take j positions) = omega (arith, length-take j positions) in
-    let differs : same_name b (get_or (take j positions) i d) ≡ false = list_any-false (same_name b) (take j positions) (names j d within) i d inside in
-    absurd (false≢true (sym differs ∙ ap (same_name b) at ∙ (bytes_eq-Decides b.name (get_or positions i d).name).1 (sym same)))
+    apart : wrong_exclude positions excludes ≡ None → AllPairs IsNew excludes
+    apart none i j d before within =
+        let later : ℕ × ℕ = get_or excludes j d in
+        let inside : i < length (take j excludes) = omega (arith, length-take j excludes) in
+        let P : ℕ × ℕ → Type 0 = λ e. IsNew e later in
+        subst P (get_or-take j excludes i d before) ((each none j d within).1 i d inside)
 
-no_kinds : (fits : List Fit) → not (length fits == 0) ≡ false → fits ≡ []
-no_kinds [] right = refl
-no_kinds (fit ∷ fits) right = absurd (omega (arith, is_zero (length (fit ∷ fits)) right))
+    right : (excludes : List (ℕ × ℕ)) → All (PairRules positions) excludes → AllPairs IsNew excludes → wrong_exclude positions excludes ≡ None
+    right [] rules new = refl
+    right (pair ∷ rest) rules new =
+        let all : List (ℕ × ℕ) = pair ∷ rest in
+        first_below-right (is_wrong_exclude_at positions all) (length all) (λ k less.
+        let last : ℕ × ℕ = get_or all k pair in
+        let there : slice_get all k ≡ Some last = slice_get-get_or all k pair less in
+        rw there ((pair-rule positions (take k all) last).1 (rules k pair less, pairs-all IsNew all k pair less new)))
+
+abbrev IsBelow : ℕ → ℕ → Type 0
+IsBelow a b = a < b
+
+abbrev is_step : ℕ × ℕ → Bool
+is_step pair = nat_lt pair.0 pair.1
+
+and-parts : (a b : Bool) → (a && b) ≡ true → (a ≡ true) × (b ≡ true)
+and-parts true b both = (refl, both)
+and-parts false b both = absurd (cc)
+
+above : (q : ℕ) (places : List ℕ) → list_all is_step (zip (q ∷ places) places) ≡ true → AllByRecursion (IsBelow q) places
+above q [] rising = tt
+above q (p ∷ places) rising =
+    let parts = and-parts (nat_lt q p) (list_all is_step (zip (p ∷ places) places)) rising in
+    let first : q < p = ltb-true q p parts.0 in
+    (first, each-weaker (IsBelow p) (IsBelow q) (λ x over. omega (arith, first, over)) places (above p places parts.1))
+
+rest-rising : (q : ℕ) (places : List ℕ) → list_all is_step (zip (q ∷ places) places) ≡ true → is_rising places ≡ true
+rest-rising q [] rising = refl
+rest-rising q (p ∷ places) rising = (and-parts (nat_lt q p) (list_all is_step (zip (p ∷ places) places)) rising).1
+
+rising-pairs : (places : List ℕ) → is_rising places ≡ true → AllPairs IsBelow places
+rising-pairs [] rising = λ i j d before within. absurd (omega arith)
+rising-pairs (q ∷ places) rising = AllPairs-cons IsBelow q places (All-from_recursion (IsBelow q) places (above q places rising)) (rising-pairs places (rest-rising q places rising))
+
+pairs-rising : (places : List ℕ) → AllPairs IsBelow places → is_rising places ≡ true
+pairs-rising [] pairs = refl
+pairs-rising (q ∷ []) pairs = refl
+pairs-rising (q ∷ p ∷ places) pairs =
+    let first : q < p = pairs 0 1 0 (omega arith) (omega arith) in
+    rw ((Decides-ltb q p).1 first, pairs-rising (p ∷ places) (AllPairs-tail IsBelow q (p ∷ places) pairs)) refl
+
+abbrev CombinedRules : List Position → Combined → Type 0
+CombinedRules positions limit = (1 ≤ length limit.places) × (AllPairs IsBelow limit.places × All (λ q. q < length positions) limit.places)
+
+combined-rule : (positions : List Position) (limit : Combined) → Refuses (is_wrong_combined positions limit) (CombinedRules positions limit)
+combined-rule positions limit = refuses-either _ _ (refuses-zero (length limit.places))
+    (refuses-either _ _ (refuses-unless (is_rising limit.places) (rising-pairs limit.places, pairs-rising limit.places))
+    (refuses-any (is_unknown positions) (λ q. q < length positions) (refuses-past (length positions)) limit.places))
+
+abbrev LimitRules : Layout → Type 0
+LimitRules h =
+    ((length h.excludes ≤ 256) × ((length h.combined ≤ 64) × (length h.cumulative ≤ 128)))
+    × ((All (PairRules h.positions) h.excludes × AllPairs IsNew h.excludes)
+    × (All (CombinedRules h.positions) h.combined
+    × All (λ (limit : Cumulative). limit.place < length h.positions) h.cumulative))
+
+limit_fault-guards : (h : Layout) → Guards (limit_fault h) (LimitRules h)
+limit_fault-guards h =
+    guards-or _ _ (guards-if _ _ (refuses-either _ _ (refuses-over 256 (length h.excludes)) (refuses-either _ _ (refuses-over 64 (length h.combined)) (refuses-over 128 (length h.cumulative)))))
+    (guards-or _ _ (guards-map _ _ (exclude-guards h.positions h.excludes))
+    (guards-or _ _ (guards-map _ _ (guards-position (is_wrong_combined h.positions) (CombinedRules h.positions) (combined-rule h.positions) h.combined))
+    (guards-map _ _ (guards-position (is_wrong_cumulative h.positions) (λ (limit : Cumulative). limit.place < length h.positions) (λ limit. refuses-past (length h.positions) limit.place) h.cumulative))))
+
+-- Rules of a task -------------------------------------------------------------------------------
+
+abbrev ItemRules : List Item → Type 0
+ItemRules items = (length items ≤ 48) × (AllPairs (λ (a b : Item). a.id ≢ b.id) items × All (λ (item : Item). item.mass.0 ≤ 20000) items)
+
+item_fault-guards : (items : List Item) → Guards (item_fault items) (ItemRules items)
+item_fault-guards items =
+    guards-or _ _ (guards-if _ _ (refuses-over 48 (length items)))
+    (guards-or _ _ (guards-map _ _ (guards-repeat same_id (λ (a b : Item). a.id ≢ b.id) (λ a b. bytes-differ a.id b.id) items))
+    (guards-map _ _ (guards-position is_too_heavy (λ (item : Item). item.mass.0 ≤ 20000) (λ item. refuses-over 20000 item.mass.0) items)))
+
+abbrev LooseRules : List Position → List Loose → Type 0
+LooseRules positions loose =
+    All (λ (load : Loose). is_bulk positions load.position ≡ true) loose
+    × (AllPairs HasPosition loose
+    × All (λ (load : Loose). load.mass.0 ≤ 20000) loose)
+
+loose_fault-guards : (positions : List Position) (loose : List Loose) → Guards (loose_fault positions loose) (LooseRules positions loose)
+loose_fault-guards positions loose =
+    guards-or _ _ (guards-map _ _ (guards-position (is_loose_misplaced positions) (λ (load : Loose). is_bulk positions load.position ≡ true) (λ load. refuses-unless (is_bulk positions load.position) (λ is. is, λ is. is)) loose))
+    (guards-or _ _ (guards-map _ _ (guards-repeat same_position HasPosition (λ a b. places-differ a.position b.position) loose))
+    (guards-map _ _ (guards-position is_loose_too_heavy (λ (load : Loose). load.mass.0 ≤ 20000) (λ load. refuses-over 20000 load.mass.0) loose)))
   where
-    is_zero : (n : ℕ) → not (n == 0) ≡ false → n ≡ 0
-    is_zero n right = grind (arith, nat_tests)
+    places-differ : (a b : ℕ) → Refuses (b == a) (a ≢ b)
+    places-differ a b = refuses-like (b == a) (λ differ is. differ (sym is)) (λ differ is. differ (sym is)) (refuses-if (b == a) (Decides-eqb b a))
 
-kinds-right : (bulk : Bool) (fits : List Fit)
-    → (if bulk then not (length fits == 0) else (length fits == 0) || (nat_lt 16 (length fits) || is_some (first_repeat same_kind fits))) ≡ false
-    → HasItsKinds bulk fits
-kinds-right true fits right = no_kinds fits right
-kinds-right false fits right = some_and_few (length fits) (is_some (first_repeat same_kind fits)) right
+abbrev IndexRule : ℤ → Type 0
+IndexRule index = unsigned_abs index ≤ 1000000000
+
+band-rule : (low high : ℤ) → Refuses (int_lt high low) (low ≤ℤ high)
+band-rule low high = (λ right. grind (arith, ints), λ kept. grind (arith, ints))
+
+range_fault-guards : (base low high ideal_low ideal_high : ℤ)
+    → Guards (range_fault base low high ideal_low ideal_high) (IndexRule base × (IndexRule low × (IndexRule high × (IndexRule ideal_low × (IndexRule ideal_high × (ideal_low ≤ℤ ideal_high))))))
+range_fault-guards base low high ideal_low ideal_high =
+    guards-or _ _ (guards-if _ _ (refuses-over 1000000000 (unsigned_abs base)))
+    (guards-or _ _ (guards-if _ _ (refuses-over 1000000000 (unsigned_abs low)))
+    (guards-or _ _ (guards-if _ _ (refuses-over 1000000000 (unsigned_abs high)))
+    (guards-or _ _ (guards-if _ _ (refuses-over 1000000000 (unsigned_abs ideal_low)))
+    (guards-or _ _ (guards-if _ _ (refuses-over 1000000000 (unsigned_abs ideal_high)))
+    (guards-if _ _ (band-rule ideal_low ideal_high))))))
+
+-- All rules -------------------------------------------------------------------------------------
+
+hold_fault-guards : (h : Layout) → Guards (hold_fault h) (PositionRules h.positions × LimitRules h)
+hold_fault-guards h = guards-or _ _ (position_fault-guards h.positions) (limit_fault-guards h)
+
+-- a hold has no fault exactly where it keeps the rules of a hold
+pub hold-rules : (h : Layout) → (hold_fault h ≡ None) ↔ KeepsHoldRules h
+hold-rules h = (λ none. kept ((hold_fault-guards h).0 none), λ rules. (hold_fault-guards h).1 (rules-of rules))
   where
-    some_and_few : (n : ℕ) (again : Bool) → ((n == 0) || (nat_lt 16 n || again)) ≡ false → (1 ≤ n) × (n ≤ 16)
-    some_and_few n again right = grind (arith, nat_tests)
+    kept : PositionRules h.positions × LimitRules h → KeepsHoldRules h
+    kept rules =
+        let positions : PositionRules h.positions = rules.0 in
+        let limits : LimitRules h = rules.1 in
+        record {
+          some_position = positions.0.0;
+          positions = positions.0.1;
+          names = positions.1.0;
+          influences = positions.1.1.0;
+          kinds = λ k d within. (positions.1.1.1.0 k d within).0;
+          different_kinds = λ k d within. (positions.1.1.1.0 k d within).1;
+          masses = positions.1.1.1.1;
+          few_excludes = limits.0.0;
+          few_combined = limits.0.1.0;
+          few_cumulative = limits.0.1.1;
+          excludes = λ k d within. let pair = limits.1.0.0 k d within in (pair.1.0, pair.1.1.0);
+          excludes_two = λ k d within. (limits.1.0.0 k d within).0;
+          excludes_no_bulk = λ k d within. (limits.1.0.0 k d within).1.1.1;
+          excludes_once = limits.1.0.1;
+          combined = λ k d within. let limit = limits.1.1.0 k d within in (limit.0, limit.1.1);
+          combined_rising = λ k d within. (limits.1.1.0 k d within).1.0;
+          cumulative = limits.1.1.1;
+        }
 
-mass-right : (fit : Fit) → has_wrong_mass fit ≡ false → (1 ≤ fit.most.0) × (fit.most.0 ≤ 20000)
-mass-right fit right = grind (arith, nat_tests)
+    rules-of : KeepsHoldRules h → PositionRules h.positions × LimitRules h
+    rules-of kept =
+        let positions : PositionRules h.positions =
+        ((kept.some_position, kept.positions), (kept.names, (kept.influences, (λ k d within. (kept.kinds k d within, kept.different_kinds k d within), kept.masses)))) in
+        let pairs : All (PairRules h.positions) h.excludes = λ k d within.
+        let known = kept.excludes k d within in
+        (kept.excludes_two k d within, (known.0, (known.1, kept.excludes_no_bulk k d within))) in
+        let combined : All (CombinedRules h.positions) h.combined = λ k d within.
+        let limit = kept.combined k d within in
+        (limit.0, (kept.combined_rising k d within, limit.1)) in
+        let limits : LimitRules h = ((kept.few_excludes, (kept.few_combined, kept.few_cumulative)), ((pairs, kept.excludes_once), (combined, kept.cumulative))) in
+        (positions, limits)
 
-unknown-not : (positions : List Position) (q : ℕ) → is_unknown positions q ≡ false → q < length positions
-unknown-not positions q right = grind (arith, nat_tests)
+-- a lawful hold keeps the rules of a hold
+pub hold-bounds : (h : Layout) → IsLawfulHold h → KeepsHoldRules h
+hold-bounds h lawful = (hold-rules h).0 lawful.right
 
-pair-right : (h : Layout) (k : ℕ) (d : ℕ × ℕ) → k < length h.excludes → is_wrong_exclude_at h.positions h.excludes k ≡ false
-    → ((get_or h.excludes k d).0 < length h.positions) × ((get_or h.excludes k d).1 < length h.positions)
-pair-right h k d within right =
-    let pair : ℕ × ℕ = get_or h.excludes k d in
-    let there : slice_get h.excludes k ≡ Some pair = slice_get-get_or h.excludes k d within in
-    let wrong : (has_wrong_places h.positions pair || list_any (same_pair pair) (take k h.excludes)) ≡ false = rw there at right in
-    known pair wrong
+abbrev TaskRules : Problem → Type 0
+TaskRules t =
+    ItemRules t.items
+    × (LooseRules t.hold.positions t.loose
+    × (IndexRule t.base × (IndexRule t.low × (IndexRule t.high × (IndexRule t.ideal_low × (IndexRule t.ideal_high × (t.ideal_low ≤ℤ t.ideal_high)))))))
+
+task_fault-guards : (t : Problem) → Guards (task_fault t) (TaskRules t)
+task_fault-guards t =
+    guards-or _ _ (item_fault-guards t.items)
+    (guards-or _ _ (loose_fault-guards t.hold.positions t.loose)
+    (guards-map _ _ (range_fault-guards t.base t.low t.high t.ideal_low t.ideal_high)))
+
+-- a task over a lawful hold has no fault exactly where it keeps the rules of a task
+pub task-rules : (t : Problem) → IsLawfulHold t.hold → (task_fault t ≡ None) ↔ KeepsTaskRules t
+task-rules t lawful = (λ none. kept ((task_fault-guards t).0 none), λ rules. (task_fault-guards t).1 (rules-of rules))
   where
-    known : (pair : ℕ × ℕ) → (has_wrong_places h.positions pair || list_any (same_pair pair) (take k h.excludes)) ≡ false
-        → (pair.0 < length h.positions) × (pair.1 < length h.positions)
-    known pair wrong =
-        let places = or-parts (has_wrong_places h.positions pair) (list_any (same_pair pair) (take k h.excludes)) wrong in
-        let first = or-parts (pair.0 == pair.1) _ places.0 in
-        let second = or-parts (is_unknown h.positions pair.0) _ first.1 in
-        let third = or-parts (is_unknown h.positions pair.1) _ second.1 in
-        (unknown-not h.positions pair.0 second.0, unknown-not h.positions pair.1 third.0)
+    kept : TaskRules t → KeepsTaskRules t
+    kept rules =
+        let of_hold = hold-bounds t.hold lawful in
+        let items : ItemRules t.items = rules.0 in
+        let loose : LooseRules t.hold.positions t.loose = rules.1.0 in
+        let indices = rules.1.1 in
+        let known : All (λ (load : Loose). load.position < length t.hold.positions) t.loose =
+        All-weaker (λ load. is_bulk t.hold.positions load.position ≡ true) (λ load. load.position < length t.hold.positions) (λ load is. bulk-known t.hold.positions load.position is) t.loose loose.0 in
+        record {
+          some_position = of_hold.some_position;
+          positions = of_hold.positions;
+          influences = of_hold.influences;
+          items = items.0;
+          identities = items.1.0;
+          item_masses = items.1.1;
+          loose = omega (arith, of_hold.positions, loose-few t.loose (length t.hold.positions) loose.1.0 known);
+          loose_masses = loose.1.1;
+          loose_known = known;
+          loose_bulk = loose.0;
+          loose_once = loose.1.0;
+          base = indices.0;
+          low = indices.1.0;
+          high = indices.1.1.0;
+          ideal_low = indices.1.1.1.0;
+          ideal_high = indices.1.1.1.1.0;
+          band = indices.1.1.1.1.1;
+        }
 
-combined-right : (positions : List Position) (limit : Combined) → is_wrong_combined positions limit ≡ false
-    → (1 ≤ length limit.places) × All (λ q. q < length positions) limit.places
-combined-right positions limit right =
-    let number = or-parts (length limit.places == 0) (not (is_rising limit.places) || list_any (is_unknown positions) limit.places) right in
-    let known = or-parts (not (is_rising limit.places)) (list_any (is_unknown positions) limit.places) number.1 in (
-      some (length limit.places) number.0,
-      All-weaker (λ q. is_unknown positions q ≡ false) (λ q. q < length positions) (unknown-not positions) limit.places (list_any-false (is_unknown positions) limit.places known.1),
+    rules-of : KeepsTaskRules t → TaskRules t
+    rules-of kept = (
+      (kept.items, (kept.identities, kept.item_masses)),
+      (
+        (kept.loose_bulk, (kept.loose_once, kept.loose_masses)),
+        (kept.base, (kept.low, (kept.high, (kept.ideal_low, (kept.ideal_high, kept.band))))),
+      ),
     )
-  where
-    some : (n : ℕ) → (n == 0) ≡ false → 1 ≤ n
-    some n right = grind (arith, nat_tests)
 
-pub hold-bounds : (h : Layout) → IsLawfulHold h → HoldBounds h
-hold-bounds h lawful =
-    let of_hold = option_or-none (position_fault h.positions) (limit_fault h) lawful.right in
-    let of_positions = position-facts h.positions of_hold.0 in
-    let of_limits = limit-facts h of_hold.1 in
-    let number = number-bounds (length h.positions) of_positions.0 in
-    record {
-      some_position = number.0;
-      positions = number.1;
-      names = names-differ h.positions of_positions.1;
-      influences = All-weaker (λ place. has_wrong_influence place ≡ false) (λ place. unsigned_abs place.influence ≤ 100000) (λ place right. ltb-false _ _ right) h.positions of_positions.2;
-      kinds = All-weaker (λ place. has_wrong_fits place ≡ false) (λ (place : Position). HasItsKinds place.bulk place.fits) (λ place right. kinds-right place.bulk place.fits right) h.positions of_positions.3;
-      masses = All-weaker (λ place. has_wrong_fit_mass place ≡ false) (λ (place : Position). All (λ (fit : Fit). (1 ≤ fit.most.0) × (fit.most.0 ≤ 20000)) place.fits)
-          (λ place right. All-weaker (λ fit. has_wrong_mass fit ≡ false) (λ (fit : Fit). (1 ≤ fit.most.0) × (fit.most.0 ≤ 20000)) mass-right place.fits (list_any-false has_wrong_mass place.fits right))
-          h.positions of_positions.4;
-      excludes = λ k d within. pair-right h k d within (of_limits.0 k within);
-      combined = All-weaker (λ limit. is_wrong_combined h.positions limit ≡ false) (λ (limit : Combined). (1 ≤ length limit.places) × All (λ q. q < length h.positions) limit.places) (combined-right h.positions) h.combined of_limits.1;
-      cumulative = All-weaker (λ limit. is_wrong_cumulative h.positions limit ≡ false) (λ (limit : Cumulative). limit.place < length h.positions) (λ limit right. unknown-not h.positions limit.place right) h.cumulative of_limits.2;
-    }
-
-pub lawful-bounds : (t : Problem) → IsLawful t → LawfulBounds t
-lawful-bounds t lawful =
-    let of_hold = hold-bounds t.hold lawful.hold in
-    let at_range : Option TaskFault = option_map task.Range (range_fault t.base t.low t.high t.ideal_low t.ideal_high) in
-    let of_items = option_or-none (item_fault t.items) (option_or (loose_fault t.hold.positions t.loose) at_range) lawful.right in
-    let of_loose = option_or-none (loose_fault t.hold.positions t.loose) at_range of_items.1 in
-    let items = item-bounds t.items of_items.0 in
-    let loose = loose-facts t.hold.positions t.loose of_loose.0 in
-    let range = range-facts t.base t.low t.high t.ideal_low t.ideal_high (option_map-none task.Range _ of_loose.1) in
-    let bulk : All (λ (load : Loose). is_bulk t.hold.positions load.position ≡ true) t.loose =
-    All-weaker (λ load. is_loose_misplaced t.hold.positions load ≡ false) (λ load. is_bulk t.hold.positions load.position ≡ true) (λ load right. not-false _ right) t.loose loose.0 in
-    let known : All (λ (load : Loose). load.position < length t.hold.positions) t.loose =
-    All-weaker (λ load. is_bulk t.hold.positions load.position ≡ true) (λ load. load.position < length t.hold.positions) (λ load is. bulk-known t.hold.positions load.position is) t.loose bulk in
-    record {
-      some_position = of_hold.some_position;
-      positions = of_hold.positions;
-      influences = of_hold.influences;
-      items = ltb-false _ _ items.0;
-      item_masses = All-weaker (λ item. is_too_heavy item ≡ false) (λ item. item.mass.0 ≤ 20000) (λ item right. ltb-false _ _ right) t.items items.1;
-      loose = omega (arith, of_hold.positions, loose-few t.loose (length t.hold.positions) loose.1 known);
-      loose_masses = All-weaker (λ load. is_loose_too_heavy load ≡ false) (λ load. load.mass.0 ≤ 20000) (λ load right. ltb-false _ _ right) t.loose loose.2;
-      loose_known = known;
-      loose_bulk = bulk;
-      base = ltb-false _ _ range.0;
-      low = ltb-false _ _ range.1;
-      high = ltb-false _ _ range.2;
-      ideal_low = ltb-false _ _ range.3;
-      ideal_high = ltb-false _ _ range.4;
-      band = band-order _ _ range.5;
-    }
+-- a lawful task keeps the rules of a task
+pub lawful-bounds : (t : Problem) → IsLawful t → KeepsTaskRules t
+lawful-bounds t lawful = (task-rules t lawful.hold).0 lawful.right

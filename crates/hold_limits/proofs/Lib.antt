@@ -4,7 +4,6 @@ pub mod KeyOrder
 pub mod SoundLemmas
 pub mod EnumerationLemmas
 pub mod OneOrder
-pub mod PairLemmas
 pub mod FaultLemmas
 pub mod LawfulBounds
 pub mod MomentLemmas

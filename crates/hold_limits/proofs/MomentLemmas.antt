@@ -1,15 +1,15 @@
 -- sums of moments, one load more at a time, and how large they can be
 use Rattle.std.proofs.Common.{◌≡◌, ⊎_elim, ℕ, ◌+◌, ◌*◌, ◌<◌, ◌≤◌, ℤ, pos, ◌+ℤ◌, ◌*ℤ◌, List, [], ◌∷◌, ◌++◌, length, take, get_or, Some, ap, sym, ◌∙◌, subst, arith, unsigned_abs, length-take}
 use Rattle.std.proofs.lemmas.Int.{ints, unsigned_abs-mul}
-use Rattle.std.proofs.lemmas.List.{take_more, take_all}
+use Rattle.std.proofs.lemmas.List.{take_all}
 use Rattle.std.proofs.lemmas.List.Elements.{All-head, All-tail, All-take, All-map}
 use Rattle.std.proofs.lemmas.Option.{slice_get_cases, slice_get_within, get_or_from_slice_get}
 use Rattle.std.proofs.lemmas.Slice.Zip.{get_or-zip, length-zip}
 use Rattle.std.proofs.Math.Nat.{suc-mul, mul-le-mul}
 use Rattle.std.specs.Prelude.{All, slice_get}
 use Rattle.desk_base.specs.Lists.{int_sum_by}
-use Rattle.hold_limits.specs.declared.parts.Item.{Item}
-use Rattle.hold_limits.specs.declared.parts.Loose.{Loose}
+use Rattle.hold_parts.specs.declared.parts.Item.{Item}
+use Rattle.hold_parts.specs.declared.parts.Loose.{Loose}
 use Rattle.hold_limits.specs.Layout.{Layout}
 use Rattle.hold_limits.specs.Problem.{Problem}
 use Rattle.hold_limits.specs.Faults.{IsLawful}
@@ -17,17 +17,11 @@ use Rattle.hold_limits.specs.BranchOrder.{Offered, branch_order, ordered}
 use Rattle.hold_limits.specs.Placement.{Placed, placed, influence_at, placed_moment, loose_moment}
 use Rattle.hold_limits.proofs.BranchOrderLemmas.{entries-offered}
 use Rattle.hold_limits.proofs.PlacedLemmas.{take-placed_more, length-placed}
-use Rattle.hold_limits.specs.Bounds.{LawfulBounds}
+use Rattle.hold_limits.specs.Bounds.{KeepsTaskRules}
 use Rattle.hold_limits.proofs.LawfulBounds.{lawful-bounds}
+use Rattle.desk_base.proofs.SignedSums.{int_sum_by-push, int_sum_by-more}
 
 -- Signed sums -----------------------------------------------------------------------------------
-
-pub int_sum_by-push : {X : Type 0} (f : X → ℤ) (xs : List X) (x : X) → int_sum_by f (xs ++ x ∷ []) ≡ int_sum_by f xs +ℤ f x
-int_sum_by-push f [] x = omega (arith, ints)
-int_sum_by-push f (y ∷ xs) x = omega (arith, ints, int_sum_by-push f xs x)
-
-pub int_sum_by-more : {X : Type 0} (f : X → ℤ) (xs : List X) (i : ℕ) (d : X) → i < length xs → int_sum_by f (take (i + 1) xs) ≡ int_sum_by f (take i xs) +ℤ f (get_or xs i d)
-int_sum_by-more f xs i d within = ap (int_sum_by f) (take_more xs i d within) ∙ int_sum_by-push f (take i xs) (get_or xs i d)
 
 pub abs-sum : (a b : ℤ) (m n : ℕ) → unsigned_abs a ≤ m → unsigned_abs b ≤ n → unsigned_abs (a +ℤ b) ≤ m + n
 abs-sum a b m n p q = omega (arith, ints)
@@ -43,7 +37,7 @@ int_sum_by-bound {X} f m (x ∷ xs) each =
 
 -- How large moments are -------------------------------------------------------------------------
 
-pub influence_at-bound : (t : Problem) → LawfulBounds t → (q : ℕ) → unsigned_abs (influence_at t.hold q) ≤ 100000
+pub influence_at-bound : (t : Problem) → KeepsTaskRules t → (q : ℕ) → unsigned_abs (influence_at t.hold q) ≤ 100000
 influence_at-bound t bounds q = ⊎_elim
     (λ inside. rw inside.2 (rw inside.3 at (bounds.influences q inside.0 inside.1)))
     (λ past. rw past.1 (omega arith))
@@ -54,7 +48,7 @@ moment-bound mass influence light near =
     let product : mass * unsigned_abs influence ≤ 20000 * 100000 = mul-le-mul light near in
     omega (arith, unsigned_abs-mul (pos mass) influence, product)
 
-loose-each : (t : Problem) → LawfulBounds t → All (λ (load : Loose). unsigned_abs (loose_moment t.hold load) ≤ 2000000000) t.loose
+loose-each : (t : Problem) → KeepsTaskRules t → All (λ (load : Loose). unsigned_abs (loose_moment t.hold load) ≤ 2000000000) t.loose
 loose-each t bounds k d within = moment-bound _ _ (bounds.loose_masses k d within) (influence_at-bound t bounds _)
 
 -- the first loose loads have at most 64 times 20,000 kg at 100,000 ticks
@@ -74,14 +68,14 @@ loose-more t loose hold i d moment same_loose same_hold within is =
     let here : moment ≡ loose_moment t.hold (get_or t.loose i d) = is ∙ ap (λ h. loose_moment h (get_or loose i d)) same_hold ∙ ap (λ ls. loose_moment t.hold (get_or ls i d)) same_loose in
     int_sum_by-more (loose_moment t.hold) t.loose i d inside ∙ ap (λ m. int_sum_by (loose_moment t.hold) (take i t.loose) +ℤ m) (sym here)
 
-ordered-masses : (t : Problem) → LawfulBounds t → All (λ (item : Item). item.mass.0 ≤ 20000) (ordered t.items)
+ordered-masses : (t : Problem) → KeepsTaskRules t → All (λ (item : Item). item.mass.0 ≤ 20000) (ordered t.items)
 ordered-masses t bounds = All-map (λ (item : Item). item.mass.0 ≤ 20000) (λ (e : Offered). e.1) (branch_order t.items)
     (λ k d within.
     let e = get_or (branch_order t.items) k d in
     let there = entries-offered t.items k d within in
     rw (get_or_from_slice_get t.items e.0 e.1 e.1 there) at (bounds.item_masses e.0 e.1 (slice_get_within t.items e.0 e.1 there)))
 
-placed-each : (t : Problem) → LawfulBounds t → (prefix : List ℕ) → All (λ (p : Placed). unsigned_abs (placed_moment t.hold p) ≤ 2000000000) (placed t prefix)
+placed-each : (t : Problem) → KeepsTaskRules t → (prefix : List ℕ) → All (λ (p : Placed). unsigned_abs (placed_moment t.hold p) ≤ 2000000000) (placed t prefix)
 placed-each t bounds prefix k d within =
     let counted = length-zip (ordered t.items) prefix in
     let in_order : k < length (ordered t.items) = omega arith in

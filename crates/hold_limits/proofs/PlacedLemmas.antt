@@ -4,12 +4,12 @@ use Rattle.std.proofs.lemmas.Slice.Zip.{get_or-zip, length-zip}
 use Rattle.std.proofs.lemmas.Option.{get_or_from_slice_get, slice_get-get_or, slice_get_within}
 use Rattle.std.proofs.lemmas.List.{take_more, get_or_default}
 use Rattle.std.proofs.lemmas.List.Sums.{sum_by_push, sum_by-take-le}
-use Rattle.std.specs.Prelude.{slice_get, IsSomeAnd, ◌↔◌, Bool, if◌then◌else◌}
-use Rattle.hold_limits.specs.declared.parts.Position.{Position}
-use Rattle.hold_limits.specs.declared.parts.Item.{Item}
+use Rattle.std.specs.Prelude.{slice_get, ◌↔◌, Bool, if◌then◌else◌}
+use Rattle.hold_parts.specs.declared.parts.Item.{Item}
+use Rattle.hold_limits.specs.Layout.{Layout}
 use Rattle.hold_limits.specs.Problem.{Problem}
 use Rattle.hold_limits.specs.BranchOrder.{ordered}
-use Rattle.hold_limits.specs.Placement.{Accepts, IsAccepted, Placed, placed, placed_load}
+use Rattle.hold_limits.specs.Placement.{IsAccepted, Placed, placed, placed_load}
 use Rattle.hold_limits.proofs.BranchOrderLemmas.{length-ordered}
 
 pub length-placed : (t : Problem) (prefix : List ℕ) → length prefix ≤ length t.items → length (placed t prefix) ≡ length prefix
@@ -41,12 +41,12 @@ take-placed_more t prefix rank q item short within there number =
     take_more (placed t prefix) rank (item, q) inside ∙ ap (λ p. take rank (placed t prefix) ++ p ∷ []) (get_or-placed t prefix rank q item (item, q) short within there number)
 
 -- the container of a rank is accepted exactly if the number at that rank is that of a position that accepts it
-pub accepted-at : (t : Problem) (prefix : List ℕ) (rank : ℕ) (item : Item) (positions : List Position) (d : Placed) → length prefix ≤ length t.items → rank < length prefix
-    → slice_get (ordered t.items) rank ≡ Some item → positions ≡ t.hold.positions
-    → IsSomeAnd (slice_get positions (get_or prefix rank 0)) (Accepts item) ↔ IsAccepted t.hold (get_or (placed t prefix) rank d)
-accepted-at t prefix rank item positions d short within there hold =
+pub accepted-at : (t : Problem) (prefix : List ℕ) (rank : ℕ) (item : Item) (hold : Layout) (d : Placed) → length prefix ≤ length t.items → rank < length prefix
+    → slice_get (ordered t.items) rank ≡ Some item → hold ≡ t.hold
+    → IsAccepted hold (item, get_or prefix rank 0) ↔ IsAccepted t.hold (get_or (placed t prefix) rank d)
+accepted-at t prefix rank item hold d short within there same =
     let pair : get_or (placed t prefix) rank d ≡ (item, get_or prefix rank 0) = get_or-placed t prefix rank _ item d short within there refl in
-    rw (pair, hold) (λ x. x, λ x. x)
+    rw (pair, same) (λ x. x, λ x. x)
 
 -- the load of one container more
 pub placed_load-more : (is_in : ℕ → Bool) (t : Problem) (prefix : List ℕ) (rank : ℕ) (item : Item) → length prefix ≤ length t.items → rank < length prefix

@@ -7,12 +7,13 @@ use Rattle.std.proofs.lemmas.Option.{slice_get_cases}
 use Rattle.std.specs.Prelude.{All, AllPairs}
 use Rattle.std.specs.List.{AllByRecursion}
 use Rattle.desk_base.specs.Lists.{Extends}
-use Rattle.hold_limits.specs.declared.parts.Combined.{Combined}
-use Rattle.hold_limits.specs.declared.parts.Cumulative.{Cumulative}
+use Rattle.hold_parts.specs.declared.parts.Combined.{Combined}
+use Rattle.hold_parts.specs.declared.parts.Cumulative.{Cumulative}
 use Rattle.hold_limits.specs.Layout.{Layout}
 use Rattle.hold_limits.specs.Problem.{Problem}
 use Rattle.hold_limits.specs.BranchOrder.{ordered}
-use Rattle.hold_limits.specs.Placement.{Placed, placed, IsAccepted, Exclude, placed_load, load_of, is_listed, is_counted, IsSound}
+use Rattle.hold_limits.specs.Placement.{Placed, placed, IsAccepted, Exclude, placed_load, load_of, IsSound}
+use Rattle.hold_parts.specs.Limits.{is_listed, is_counted}
 use Rattle.hold_limits.proofs.BranchOrderLemmas.{length-ordered}
 
 -- Fronts of lists -------------------------------------------------------------------------------

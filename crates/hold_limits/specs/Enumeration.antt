@@ -1,25 +1,20 @@
 -- the plain way to the best path, beside the definitions: try every path there is, and keep the one with the least key
-use Rattle.std.specs.Prelude.{ℕ, zero, suc, int_le, Bool, true, false, not, ◌&&◌, ◌||◌, ◌==◌, nat_le, if◌then◌else◌, List, [], ◌∷◌, length, map, flat_map, Option, Some, None, slice_get, bytes_eq}
+use Rattle.std.specs.Prelude.{ℕ, zero, suc, int_le, Bool, true, false, not, ◌&&◌, ◌||◌, ◌==◌, nat_le, if◌then◌else◌, List, [], ◌∷◌, length, map, flat_map, Option, Some, None, slice_get}
 use Rattle.std.specs.List.{list_all, list_any, range_with_len}
 use Rattle.std.specs.Option.{option_map_or}
 use Rattle.std.specs.Ordering.{is_gt}
-use Rattle.hold_limits.specs.declared.parts.Position.{Position}
-use Rattle.hold_limits.specs.declared.lists.Fit.{Fit}
-use Rattle.hold_limits.specs.declared.parts.Combined.{Combined}
-use Rattle.hold_limits.specs.declared.parts.Cumulative.{Cumulative}
-use Rattle.hold_limits.specs.declared.parts.Item.{Item}
+use Rattle.hold_parts.specs.declared.parts.Combined.{Combined}
+use Rattle.hold_parts.specs.declared.parts.Cumulative.{Cumulative}
 use Rattle.hold_limits.specs.Layout.{Layout}
 use Rattle.hold_limits.specs.Problem.{Problem}
-use Rattle.hold_limits.specs.Placement.{Placed, placed, kind_of, load_of, is_listed, is_counted, hold_index, key, key_cmp}
+use Rattle.hold_limits.specs.Placement.{Placed, placed, load_of, hold_index, key, key_cmp}
+use Rattle.hold_parts.specs.Limits.{is_listed, is_counted}
+use Rattle.hold_parts.specs.Accepting.{accepts}
 
 -- whether the test holds of each element and each later one
 abbrev pub list_all_pairs : {X : Type 0} → (X → X → Bool) → List X → Bool
 list_all_pairs test [] = true
 list_all_pairs test (x ∷ xs) = list_all (test x) xs && list_all_pairs test xs
-
--- whether the position accepts the container
-abbrev pub accepts : Item → Position → Bool
-accepts item place = list_any (λ (fit : Fit). bytes_eq fit.kind (kind_of item) && nat_le item.mass.0 fit.most.0) place.fits
 
 -- whether the number is that of a position, and the position accepts the container
 abbrev pub is_accepted : Layout → Placed → Bool

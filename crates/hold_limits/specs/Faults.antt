@@ -1,24 +1,25 @@
--- what is wrong with a hold or with a task: the first reason, by kind of fault and then by place
-use Rattle.std.specs.Prelude.{◌≡◌, ℕ, ◌≤◌, ℤ, unsigned_abs, int_lt, Bool, false, not, ◌&&◌, ◌||◌, ◌==◌, nat_lt, nat_le, if◌then◌else◌, List, length, take, drop, zip, All, position, Option, Some, None, is_some, option_map, slice_get, bytes_eq}
+-- what is wrong with a hold or with a task: the first kind of fault that there is, at its first place in its list
+use Rattle.std.specs.Prelude.{◌≡◌, ℕ, ◌≤◌, ℤ, unsigned_abs, int_lt, Bool, false, not, ◌&&◌, ◌||◌, ◌==◌, nat_lt, nat_le, if◌then◌else◌, List, length, take, drop, zip, All, position, Option, Some, None, is_some, option_map, slice_get}
 use Rattle.std.specs.List.{list_any, list_all}
 use Rattle.std.specs.Option.{option_or, option_map_or}
 use Rattle.desk_base.specs.Lists.{first_below, first_repeat}
 use Rattle.mass_units.specs.declared.Kg.{Kg}
-use Rattle.hold_limits.specs.declared.lists.Fit.{Fit}
-use Rattle.hold_limits.specs.declared.parts.Position.{Position}
-use Rattle.hold_limits.specs.declared.parts.Combined.{Combined}
-use Rattle.hold_limits.specs.declared.parts.Cumulative.{Cumulative}
-use Rattle.hold_limits.specs.declared.parts.Item.{Item}
-use Rattle.hold_limits.specs.declared.parts.Loose.{Loose}
+use Rattle.hold_parts.specs.declared.lists.Fit.{Fit}
+use Rattle.hold_parts.specs.declared.parts.Position.{Position}
+use Rattle.hold_parts.specs.declared.parts.Combined.{Combined}
+use Rattle.hold_parts.specs.declared.parts.Cumulative.{Cumulative}
+use Rattle.hold_parts.specs.declared.parts.Item.{Item}
+use Rattle.hold_parts.specs.declared.parts.Loose.{Loose}
 use Rattle.hold_limits.specs.declared.fault.HoldFault.{HoldFault}
 use Rattle.hold_limits.specs.declared.fault.HoldFault.TheVariants as hold
 use Rattle.hold_limits.specs.declared.fault.TaskFault.{TaskFault}
 use Rattle.hold_limits.specs.declared.fault.TaskFault.TheVariants as task
-use Rattle.hold_limits.specs.Spellings.{IsKind}
+use Rattle.hold_parts.specs.Spellings.{IsKind}
+use Rattle.hold_parts.specs.Repeats.{same_name, same_kind, same_id, same_position}
 use Rattle.hold_limits.specs.Layout.{Layout}
 use Rattle.hold_limits.specs.Problem.{Problem}
 
--- a fault where the test passes
+-- the fault, where there is one
 abbrev pub fault_if : {F : Type 0} → Bool → F → Option F
 fault_if wrong fault = if wrong then Some fault else None
 
@@ -27,27 +28,21 @@ fault_if wrong fault = if wrong then Some fault else None
 abbrev pub has_wrong_number : List Position → Bool
 has_wrong_number positions = (length positions == 0) || nat_lt 64 (length positions)
 
-abbrev pub same_name : Position → Position → Bool
-same_name a b = bytes_eq a.name b.name
-
 abbrev pub has_wrong_influence : Position → Bool
-has_wrong_influence place = nat_lt 100000 (unsigned_abs place.influence)
-
-abbrev pub same_kind : Fit → Fit → Bool
-same_kind a b = bytes_eq a.kind b.kind
+has_wrong_influence p = nat_lt 100000 (unsigned_abs p.influence)
 
 -- a bulk position with fits, or another without any, with over 16, or with a kind twice
 abbrev pub has_wrong_fits : Position → Bool
-has_wrong_fits place =
-    if place.bulk then not (length place.fits == 0)
-    else (length place.fits == 0) || (nat_lt 16 (length place.fits) || is_some (first_repeat same_kind place.fits))
+has_wrong_fits p =
+    if p.bulk then not (length p.fits == 0)
+    else (length p.fits == 0) || (nat_lt 16 (length p.fits) || is_some (first_repeat same_kind p.fits))
 
 -- a greatest mass of 0 or over 20,000 kg
 abbrev pub has_wrong_mass : Fit → Bool
 has_wrong_mass fit = (fit.most.0 == 0) || nat_lt 20000 fit.most.0
 
 abbrev pub has_wrong_fit_mass : Position → Bool
-has_wrong_fit_mass place = list_any has_wrong_mass place.fits
+has_wrong_fit_mass p = list_any has_wrong_mass p.fits
 
 abbrev pub has_too_many : List (ℕ × ℕ) → List Combined → List Cumulative → Bool
 has_too_many excludes combined cumulative = nat_lt 256 (length excludes) || (nat_lt 64 (length combined) || nat_lt 128 (length cumulative))
@@ -56,11 +51,11 @@ abbrev pub is_unknown : List Position → ℕ → Bool
 is_unknown positions q = nat_le (length positions) q
 
 abbrev pub is_bulk : List Position → ℕ → Bool
-is_bulk positions q = option_map_or (λ (place : Position). place.bulk) (slice_get positions q) false
+is_bulk positions q = option_map_or (λ (p : Position). p.bulk) (slice_get positions q) false
 
 -- the pair has equal or unknown positions, or a bulk one
-abbrev pub has_wrong_places : List Position → (ℕ × ℕ) → Bool
-has_wrong_places positions pair =
+abbrev pub has_wrong_positions : List Position → (ℕ × ℕ) → Bool
+has_wrong_positions positions pair =
     (pair.0 == pair.1) || (is_unknown positions pair.0 || (is_unknown positions pair.1 || (is_bulk positions pair.0 || is_bulk positions pair.1)))
 
 -- the same two positions, in either order
@@ -69,7 +64,7 @@ same_pair a b = ((a.0 == b.0) && (a.1 == b.1)) || ((a.0 == b.1) && (a.1 == b.0))
 
 -- the excluding pair has wrong positions, or is one of the earlier pairs
 abbrev pub is_wrong_exclude : List Position → List (ℕ × ℕ) → (ℕ × ℕ) → Bool
-is_wrong_exclude positions earlier pair = has_wrong_places positions pair || list_any (same_pair pair) earlier
+is_wrong_exclude positions earlier pair = has_wrong_positions positions pair || list_any (same_pair pair) earlier
 
 abbrev pub is_wrong_exclude_at : List Position → List (ℕ × ℕ) → ℕ → Bool
 is_wrong_exclude_at positions excludes at = option_map_or (is_wrong_exclude positions (take at excludes)) (slice_get excludes at) false
@@ -112,15 +107,12 @@ hold_fault h = option_or (position_fault h.positions) (limit_fault h)
 
 -- what the reader of a hold makes sure of, and no fault tests: compartments of one digit, kinds of three capitals, greatest masses of nine digits
 pub record IsWellSpelled (h : Layout) : Type 0 where
-  pub compartments : All (λ (place : Position). place.compartment ≤ 9) h.positions
-  pub kinds : All (λ (place : Position). All (λ (fit : Fit). IsKind fit.kind) place.fits) h.positions
+  pub compartments : All (λ (p : Position). p.compartment ≤ 9) h.positions
+  pub kinds : All (λ (p : Position). All (λ (fit : Fit). IsKind fit.kind) p.fits) h.positions
   pub combined : All (λ (limit : Combined). limit.most.0 ≤ 999999999) h.combined
   pub cumulative : All (λ (limit : Cumulative). limit.most.0 ≤ 999999999) h.cumulative
 
 -- Of a task -------------------------------------------------------------------------------------
-
-abbrev pub same_id : Item → Item → Bool
-same_id a b = bytes_eq a.id b.id
 
 abbrev pub is_over_mass : Kg → Bool
 is_over_mass mass = nat_lt 20000 mass.0
@@ -138,9 +130,6 @@ item_fault items =
 abbrev pub is_loose_misplaced : List Position → Loose → Bool
 is_loose_misplaced positions load = not (is_bulk positions load.position)
 
-abbrev pub same_place : Loose → Loose → Bool
-same_place a b = a.position == b.position
-
 abbrev pub is_loose_too_heavy : Loose → Bool
 is_loose_too_heavy load = is_over_mass load.mass
 
@@ -148,7 +137,7 @@ is_loose_too_heavy load = is_over_mass load.mass
 abbrev pub loose_fault : List Position → List Loose → Option TaskFault
 loose_fault positions loose =
     option_or (option_map task.LooseNotBulk (position (is_loose_misplaced positions) loose))
-    (option_or (option_map task.LooseTwice (first_repeat same_place loose))
+    (option_or (option_map task.LooseTwice (first_repeat same_position loose))
     (option_map task.LooseTooHeavy (position is_loose_too_heavy loose)))
 
 abbrev pub is_over_index : ℤ → Bool
@@ -171,7 +160,7 @@ task_fault t =
     (option_or (loose_fault t.hold.positions t.loose)
     (option_map task.Range (range_fault t.base t.low t.high t.ideal_low t.ideal_high)))
 
--- a hold, and a task, as the constructors let them pass
+-- a hold, and a task, as their constructors make them
 pub record IsLawfulHold (h : Layout) : Type 0 where
   pub right : hold_fault h ≡ None
   pub spelled : IsWellSpelled h

@@ -1,9 +1,7 @@
-pub mod Spellings
 pub mod Layout
 pub mod Problem
 pub mod BranchOrder
 pub mod Placement
 pub mod Faults
 pub mod Bounds
-pub mod Group
 pub mod Enumeration

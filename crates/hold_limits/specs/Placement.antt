@@ -2,18 +2,17 @@
 --
 -- A prefix is a list of position numbers for the first containers of branch order, one for each.
 -- It is complete, and is then called a path, where it has a number for every container.
-use Rattle.std.specs.Prelude.{◌≡◌, ◌≢◌, ℕ, ◌+◌, ◌≤◌, ◌⊎◌, ℤ, pos, ◌+ℤ◌, ◌-ℤ◌, ◌*ℤ◌, ◌≤ℤ◌, int_lt, unsigned_abs, Bool, false, ◌==◌, nat_le, if◌then◌else◌, List, length, zip, take, All, AllPairs, Any, sum_by, slice_get, IsSomeAnd}
-use Rattle.std.specs.List.{list_any}
+use Rattle.std.specs.Prelude.{◌≡◌, ◌≢◌, ℕ, ◌+◌, ◌≤◌, ◌⊎◌, ℤ, pos, ◌+ℤ◌, ◌-ℤ◌, ◌*ℤ◌, ◌≤ℤ◌, int_lt, unsigned_abs, Bool, false, if◌then◌else◌, List, length, zip, All, AllPairs, Any, sum_by, slice_get, IsSomeAnd}
 use Rattle.std.specs.Option.{option_map_or}
 use Rattle.std.specs.Ordering.{nat_cmp, ordering_then, is_gt}
 use Rattle.std.specs.Cmp.Lexicographic.{slice_cmp}
 use Rattle.std.specs.declared.cmp.Ordering.{Ordering}
 use Rattle.desk_base.specs.Lists.{int_sum_by}
-use Rattle.hold_limits.specs.declared.parts.Position.{Position}
-use Rattle.hold_limits.specs.declared.lists.Fit.{Fit}
-use Rattle.hold_limits.specs.declared.parts.Cumulative.{Cumulative}
-use Rattle.hold_limits.specs.declared.parts.Item.{Item}
-use Rattle.hold_limits.specs.declared.parts.Loose.{Loose}
+use Rattle.hold_parts.specs.declared.parts.Position.{Position}
+use Rattle.hold_parts.specs.declared.parts.Item.{Item}
+use Rattle.hold_parts.specs.declared.parts.Loose.{Loose}
+use Rattle.hold_parts.specs.Accepting.{Accepts}
+use Rattle.hold_parts.specs.Limits.{is_listed, is_counted}
 use Rattle.hold_limits.specs.Layout.{Layout}
 use Rattle.hold_limits.specs.Problem.{Problem}
 use Rattle.hold_limits.specs.BranchOrder.{ordered}
@@ -25,14 +24,6 @@ Placed = Item × ℕ
 -- the containers of a prefix with their positions: the i-th of branch order with the i-th number
 abbrev pub placed : Problem → List ℕ → List Placed
 placed t prefix = zip (ordered t.items) prefix
-
--- the kind of a container: the first three letters of its identity
-abbrev pub kind_of : Item → List ℕ
-kind_of item = take 3 item.id
-
--- the position accepts the container's kind, with a greatest mass of at least the container's
-abbrev pub Accepts : Item → Position → Type 0
-Accepts item place = Any (λ (fit : Fit). (fit.kind ≡ kind_of item) × (item.mass.0 ≤ fit.most.0)) place.fits
 
 -- the number is that of a position, and the position accepts the container
 abbrev pub IsAccepted : Layout → Placed → Type 0
@@ -53,14 +44,6 @@ loose_load is_in loose = sum_by (λ (l : Loose). if is_in l.position then l.mass
 abbrev pub load_of : (ℕ → Bool) → Problem → List ℕ → ℕ
 load_of is_in t prefix = placed_load is_in (placed t prefix) + loose_load is_in t.loose
 
--- the set of a combined limit: the positions that it lists
-abbrev pub is_listed : List ℕ → ℕ → Bool
-is_listed places q = list_any (λ place. place == q) places
-
--- the set of a cumulative limit: all positions up to and with its place, or all from it on
-abbrev pub is_counted : Cumulative → ℕ → Bool
-is_counted limit q = if limit.forward then nat_le q limit.place else nat_le limit.place q
-
 -- each container of the prefix has a position of its own that accepts it, and no limit of the hold is broken
 pub record IsSound (t : Problem) (prefix : List ℕ) : Type 0 where
   pub short : length prefix ≤ length t.items
@@ -72,7 +55,7 @@ pub record IsSound (t : Problem) (prefix : List ℕ) : Type 0 where
 
 -- the influence of a position, in ticks per kilogram
 abbrev pub influence_at : Layout → ℕ → ℤ
-influence_at hold q = option_map_or (λ (place : Position). place.influence) (slice_get hold.positions q) (pos 0)
+influence_at hold q = option_map_or (λ (position : Position). position.influence) (slice_get hold.positions q) (pos 0)
 
 -- mass times influence of a container on its position, and of a loose load on its own, in ticks
 abbrev pub placed_moment : Layout → Placed → ℤ

@@ -1,9 +1,9 @@
-//! What a placement is worth: its hold index, whether that is in the window, and how far the take-off
-//! index lies from the ideal band.
+//! The indices of a placement: its hold index, whether that is in the window, and how far the take-off index lies
+//! from the ideal band.
 //!
-//! The method is that of FAA-H-8083-1B: the moment of a load is its mass times the arm of its place, and
-//! an index is a moment in a unit that keeps it short. Here the arm of a position is its influence, the
-//! ticks by which one kilogram on it moves the index.
+//! The method is that of FAA-H-8083-1B: the moment of a load is its mass times its arm, and an index is a moment in a
+//! unit that keeps it short. Here the arm of a position is its influence, the ticks by which one kilogram on it moves
+//! the index.
 
 ghost use Rattle.std.specs.Prelude.{◌≡◌, ◌≤◌, ◌↔◌, pos, ◌*ℤ◌, ◌≤ℤ◌, unsigned_abs, IsTrue, length};
 ghost use Rattle.desk_base.specs.Lists.{int_sum_by};
@@ -14,22 +14,11 @@ use crate::hold::Hold;
 use crate::task::{Path, Task};
 use mass_units::{Kg, Ticks};
 
-/// The influence of the position with this number, in ticks for each kilogram; 0 where the number is that
-/// of no position.
-fn influence_of(hold: &Hold, number: u8) -> i32
-    ensures { result ≡ influence_at hold.now number }
-{
-    match hold.positions().get(number as usize) {
-        Some(position) => position.influence,
-        None => 0,
-    }
-}
-
 /// The moment of a mass on the position with this number, in ticks.
 fn moment_at(hold: &Hold, mass: Kg, number: u8) -> i64
     ensures { result ≡ pos mass.0 *ℤ influence_at hold.now number }
 {
-    i64::from(mass.0) * i64::from(influence_of(hold, number))
+    i64::from(mass.0) * i64::from(hold.influence_at(number))
 }
 
 /// The moments of the placed containers together, in ticks.

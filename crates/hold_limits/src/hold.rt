@@ -1,13 +1,14 @@
-ghost use Rattle.std.specs.Prelude.{◌≡◌, ◌↔◌, IfOk, IfErr, Some, None, IsTrue};
-ghost use Rattle.hold_limits.specs.Layout.{layout_of};
-ghost use Rattle.hold_limits.specs.Faults.{IsWellSpelled, IsLawfulHold, hold_fault};
+ghost use Rattle.std.specs.Prelude.{◌≡◌, ◌≤◌, ◌↔◌, IfOk, IfErr, Some, None, IsTrue, length};
+ghost use Rattle.std.specs.List.{list_any};
+ghost use Rattle.hold_limits.specs.Layout.{layout_of, name_at};
+ghost use Rattle.hold_limits.specs.Faults.{IsWellSpelled, IsLawfulHold, hold_fault, same_pair};
+ghost use Rattle.hold_limits.specs.Placement.{IsAccepted, Exclude, influence_at};
+ghost use Rattle.hold_limits.specs.Enumeration.{is_accepted, exclude};
 
-use crate::copies::{copied_limits, copied_positions, copied_values};
 use crate::fault::HoldFault;
-use crate::hold_faults::fault_of_hold;
-use crate::parts::{Combined, Cumulative, Position};
-use crate::sameness::are_same;
+use crate::hold_faults::{fault_of_hold, is_same_pair};
 use desk_base::NoMemory;
+use hold_parts::{Combined, Cumulative, Item, Position, are_same, copied};
 use std::alloc::Global;
 use std::marker::Model;
 
@@ -29,6 +30,12 @@ impl Model for Hold {
     ghost view = { λ h. layout_of h.positions.items h.excludes.items h.combined.items h.cumulative.items };
 
     ghost invariant = { λ h. IsLawfulHold (layout_of h.positions.items h.excludes.items h.combined.items h.cumulative.items) };
+}
+
+fn is_listed_pair(pairs: &[(u8, u8)], one: u8, other: u8) -> bool
+    ensures { result ≡ list_any (λ pair. same_pair pair (one, other)) pairs.now }
+{
+    pairs.iter().any(|pair| is_same_pair(*pair, (one, other)))
 }
 
 impl Hold {
@@ -92,15 +99,64 @@ impl Hold {
         self.cumulative.as_slice()
     }
 
+    /// How many positions it has. They are numbered from 0.
+    pub fn position_count(&self) -> u8
+        ensures value { result ≡ length self.now.positions }
+        ensures few { result ≤ 64 }
+        ensures lawful { IsLawfulHold self.now }
+    {
+        self.positions.len() as u8
+    }
+
+    /// Whether the number is that of a position which takes the container.
+    pub fn accepts_at(&self, item: &Item, number: u8) -> bool
+        ensures value { result ≡ is_accepted self.now (item.now, number) }
+        ensures meaning { IsTrue result ↔ IsAccepted self.now (item.now, number) }
+    {
+        match self.positions.get(number as usize) {
+            Some(position) => position.accepts(item),
+            None => false,
+        }
+    }
+
+    /// The influence of the position with this number, in ticks for each kilogram; 0 where the number is that
+    /// of no position.
+    pub fn influence_at(&self, number: u8) -> i32
+        ensures { result ≡ influence_at self.now number }
+    {
+        match self.positions.get(number as usize) {
+            Some(position) => position.influence,
+            None => 0,
+        }
+    }
+
+    /// The name of the position with this number, and nothing where the number is that of no position.
+    pub fn name_at(&self, number: u8) -> &[u8]
+        ensures { result.now ≡ name_at self.now.positions number }
+    {
+        match self.positions.get(number as usize) {
+            Some(position) => position.name.bytes(),
+            None => b"",
+        }
+    }
+
+    /// Whether the two positions are an excluding pair, in either order.
+    pub fn exclude_each_other(&self, one: u8, other: u8) -> bool
+        ensures value { result ≡ exclude self.now one other }
+        ensures meaning { IsTrue result ↔ Exclude self.now one other }
+    {
+        is_listed_pair(self.excludes(), one, other)
+    }
+
     /// A hold with the same parts.
     pub fn copy(&self, alloc: Global) -> Result<Hold, NoMemory>
         ensures { IfOk result (λ copy. copy ≡ self.now) }
     {
         Ok(Hold {
-            positions: copied_positions(alloc, self.positions.as_slice())?,
-            excludes: copied_values(alloc, self.excludes.as_slice())?,
-            combined: copied_limits(alloc, self.combined.as_slice())?,
-            cumulative: copied_values(alloc, self.cumulative.as_slice())?,
+            positions: copied(alloc, self.positions.as_slice())?,
+            excludes: self.excludes.as_slice().to_vec(alloc)?,
+            combined: copied(alloc, self.combined.as_slice())?,
+            cumulative: self.cumulative.as_slice().to_vec(alloc)?,
         })
     }
 

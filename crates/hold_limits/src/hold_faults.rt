@@ -2,13 +2,11 @@
 
 ghost use Rattle.std.specs.Prelude.{◌≡◌, position};
 ghost use Rattle.std.specs.List.{list_any};
-ghost use Rattle.desk_base.specs.Lists.{first_repeat, repeats_at};
 ghost use Rattle.hold_limits.specs.Layout.{layout_of};
-ghost use Rattle.hold_limits.specs.Faults.{position_fault, limit_fault, hold_fault, has_wrong_number, same_name, has_wrong_influence, same_kind, has_wrong_fits, has_wrong_mass, has_wrong_fit_mass, has_too_many, is_unknown, is_bulk, has_wrong_places, same_pair, is_wrong_exclude, is_wrong_exclude_at, wrong_exclude, is_rising, is_wrong_combined, is_wrong_cumulative};
+ghost use Rattle.hold_limits.specs.Faults.{position_fault, limit_fault, hold_fault, has_wrong_number, has_wrong_influence, has_wrong_fits, has_wrong_mass, has_wrong_fit_mass, has_too_many, is_unknown, is_bulk, has_wrong_positions, same_pair, is_wrong_exclude, is_wrong_exclude_at, wrong_exclude, is_rising, is_wrong_combined, is_wrong_cumulative};
 
 use crate::fault::HoldFault;
-use crate::lists::Fit;
-use crate::parts::{Combined, Cumulative, Position};
+use hold_parts::{Combined, Cumulative, Fit, Position, first_repeat};
 use mass_units::Kg;
 
 const MOST_POSITIONS: usize = 64;
@@ -23,45 +21,13 @@ const MOST_COMBINED: usize = 64;
 
 const MOST_CUMULATIVE: usize = 128;
 
-const MOST_CONTAINER_MASS: Kg = Kg(20_000);
+/// The greatest mass of a container or of a loose load.
+pub const MOST_MASS: Kg = Kg(20_000);
 
 fn is_number_wrong(positions: &[Position]) -> bool
     ensures { result ≡ has_wrong_number positions.now }
 {
     positions.is_empty() || positions.len() > MOST_POSITIONS
-}
-
-fn has_same_name(one: &Position, other: &Position) -> bool
-    ensures { result ≡ same_name one.now other.now }
-{
-    one.name.bytes() == other.name.bytes()
-}
-
-fn is_named_among(position: &Position, others: &[Position]) -> bool
-    ensures { result ≡ list_any (same_name position.now) others.now }
-{
-    others.iter().any(|other| has_same_name(position, other))
-}
-
-fn repeats_name(positions: &[Position], at: usize) -> bool
-    ensures { result ≡ repeats_at same_name positions.now at }
-{
-    match positions.get(at) {
-        Some(position) => is_named_among(position, &positions[..at]),
-        None => false,
-    }
-}
-
-#[tactic(auto, using(desk_base::proofs::ListLemmas::first_steps))]
-fn repeated_name(positions: &[Position]) -> Option<usize>
-    ensures { result ≡ first_repeat same_name positions.now }
-{
-    for at in 0..positions.len() {
-        if repeats_name(positions, at) {
-            return Some(at);
-        }
-    }
-    None
 }
 
 fn is_influence_wrong(position: &Position) -> bool
@@ -76,39 +42,6 @@ fn wrong_influence(positions: &[Position]) -> Option<usize>
     positions.iter().position(is_influence_wrong)
 }
 
-fn has_same_kind(one: &Fit, other: &Fit) -> bool
-    ensures { result ≡ same_kind one.now other.now }
-{
-    one.kind == other.kind
-}
-
-fn is_kind_among(fit: &Fit, others: &[Fit]) -> bool
-    ensures { result ≡ list_any (same_kind fit.now) others.now }
-{
-    others.iter().any(|other| has_same_kind(fit, other))
-}
-
-fn repeats_kind(fits: &[Fit], at: usize) -> bool
-    ensures { result ≡ repeats_at same_kind fits.now at }
-{
-    match fits.get(at) {
-        Some(fit) => is_kind_among(fit, &fits[..at]),
-        None => false,
-    }
-}
-
-#[tactic(auto, using(desk_base::proofs::ListLemmas::first_steps))]
-fn repeated_kind(fits: &[Fit]) -> Option<usize>
-    ensures { result ≡ first_repeat same_kind fits.now }
-{
-    for at in 0..fits.len() {
-        if repeats_kind(fits, at) {
-            return Some(at);
-        }
-    }
-    None
-}
-
 fn are_fits_wrong(position: &Position) -> bool
     ensures { result ≡ has_wrong_fits position.now }
 {
@@ -116,7 +49,7 @@ fn are_fits_wrong(position: &Position) -> bool
     if position.bulk {
         !fits.is_empty()
     } else {
-        fits.is_empty() || fits.len() > MOST_FITS || repeated_kind(fits).is_some()
+        fits.is_empty() || fits.len() > MOST_FITS || first_repeat(fits).is_some()
     }
 }
 
@@ -129,7 +62,7 @@ fn wrong_fits(positions: &[Position]) -> Option<usize>
 fn is_mass_wrong(fit: &Fit) -> bool
     ensures { result ≡ has_wrong_mass fit.now }
 {
-    fit.most.0 == 0 || fit.most.0 > MOST_CONTAINER_MASS.0
+    fit.most.0 == 0 || fit.most.0 > MOST_MASS.0
 }
 
 fn is_fit_mass_wrong(position: &Position) -> bool
@@ -167,8 +100,8 @@ pub fn is_position_bulk(positions: &[Position], number: u8) -> bool
         .is_some_and(|position| position.bulk)
 }
 
-fn are_places_wrong(positions: &[Position], pair: (u8, u8)) -> bool
-    ensures { result ≡ has_wrong_places positions.now pair }
+fn are_pair_positions_wrong(positions: &[Position], pair: (u8, u8)) -> bool
+    ensures { result ≡ has_wrong_positions positions.now pair }
 {
     pair.0 == pair.1
         || is_position_unknown(positions, pair.0)
@@ -177,7 +110,8 @@ fn are_places_wrong(positions: &[Position], pair: (u8, u8)) -> bool
         || is_position_bulk(positions, pair.1)
 }
 
-fn is_same_pair(one: (u8, u8), other: (u8, u8)) -> bool
+/// Whether the pairs have the same two positions, in either order.
+pub fn is_same_pair(one: (u8, u8), other: (u8, u8)) -> bool
     ensures { result ≡ same_pair one other }
 {
     (one.0 == other.0 && one.1 == other.1) || (one.0 == other.1 && one.1 == other.0)
@@ -193,7 +127,8 @@ fn is_exclude_wrong(positions: &[Position], excludes: &[(u8, u8)], at: usize) ->
     ensures { result ≡ is_wrong_exclude_at positions.now excludes.now at }
 {
     match excludes.get(at) {
-        Some(pair) => are_places_wrong(positions, *pair) || is_pair_among(*pair, &excludes[..at]),
+        Some(pair) => are_pair_positions_wrong(positions, *pair)
+            || is_pair_among(*pair, &excludes[..at]),
         None => false,
     }
 }
@@ -210,28 +145,28 @@ fn first_wrong_exclude(positions: &[Position], excludes: &[(u8, u8)]) -> Option<
     None
 }
 
-fn are_rising(places: &[u8]) -> bool
-    ensures { result ≡ is_rising places.now }
+fn are_rising(numbers: &[u8]) -> bool
+    ensures { result ≡ is_rising numbers.now }
 {
-    places
+    numbers
         .iter()
-        .zip(places.iter().skip(1))
-        .all(|(place, next)| place < next)
+        .zip(numbers.iter().skip(1))
+        .all(|(number, next)| number < next)
 }
 
-fn is_any_unknown(positions: &[Position], places: &[u8]) -> bool
-    ensures { result ≡ list_any (is_unknown positions.now) places.now }
+fn is_any_unknown(positions: &[Position], numbers: &[u8]) -> bool
+    ensures { result ≡ list_any (is_unknown positions.now) numbers.now }
 {
-    places
+    numbers
         .iter()
-        .any(|place| is_position_unknown(positions, *place))
+        .any(|number| is_position_unknown(positions, *number))
 }
 
 fn is_combined_wrong(positions: &[Position], limit: &Combined) -> bool
     ensures { result ≡ is_wrong_combined positions.now limit.now }
 {
-    let places = limit.places.as_slice();
-    places.is_empty() || !are_rising(places) || is_any_unknown(positions, places)
+    let numbers = limit.places.as_slice();
+    numbers.is_empty() || !are_rising(numbers) || is_any_unknown(positions, numbers)
 }
 
 fn first_wrong_combined(positions: &[Position], combined: &[Combined]) -> Option<usize>
@@ -256,14 +191,14 @@ fn fault_of_positions(positions: &[Position]) -> Option<HoldFault>
     if is_number_wrong(positions) {
         return Some(HoldFault::Positions(positions.len()));
     }
-    if let Some(at) = repeated_name(positions) {
-        return Some(HoldFault::SameName(at));
+    if let Some(place) = first_repeat(positions) {
+        return Some(HoldFault::SameName(place));
     }
-    if let Some(at) = wrong_influence(positions) {
-        return Some(HoldFault::Influence(at));
+    if let Some(place) = wrong_influence(positions) {
+        return Some(HoldFault::Influence(place));
     }
-    if let Some(at) = wrong_fits(positions) {
-        return Some(HoldFault::Fits(at));
+    if let Some(place) = wrong_fits(positions) {
+        return Some(HoldFault::Fits(place));
     }
     wrong_fit_mass(positions).map(HoldFault::FitMass)
 }
@@ -279,16 +214,16 @@ fn fault_of_limits(
     if are_too_many(excludes, combined, cumulative) {
         return Some(HoldFault::TooMany);
     }
-    if let Some(at) = first_wrong_exclude(positions, excludes) {
-        return Some(HoldFault::Exclude(at));
+    if let Some(place) = first_wrong_exclude(positions, excludes) {
+        return Some(HoldFault::Exclude(place));
     }
-    if let Some(at) = first_wrong_combined(positions, combined) {
-        return Some(HoldFault::Combined(at));
+    if let Some(place) = first_wrong_combined(positions, combined) {
+        return Some(HoldFault::Combined(place));
     }
     first_wrong_cumulative(positions, cumulative).map(HoldFault::Cumulative)
 }
 
-/// The first fault of a hold with these parts, by kind and then by place.
+/// The first fault of a hold with these parts: the first kind that there is, at its first place in its list.
 pub fn fault_of_hold(
     positions: &[Position],
     excludes: &[(u8, u8)],

@@ -1,20 +1,23 @@
-//! Laws of the definitions: what is proved of branch order, of sound prefixes and of best paths themselves.
+//! Laws of the definitions themselves: of branch order, sound prefixes, best paths, and lawful holds and tasks.
 
-ghost use Rattle.std.specs.Prelude.{◌≡◌, ◌↔◌, ◌<◌, ◌≤◌, ℕ, List, ◌++◌, length, All, Some, IsTrue, MatchOption, slice_get};
+ghost use Rattle.std.specs.Prelude.{◌≡◌, ◌↔◌, ◌<◌, ◌≤◌, ℕ, List, ◌++◌, length, All, Some, None, IsTrue, MatchOption, slice_get};
 ghost use Rattle.std.specs.Cmp.{IsTotalOrder};
-ghost use Rattle.hold_limits.specs.declared.parts.Item.{Item};
+ghost use Rattle.hold_parts.specs.declared.parts.Item.{Item};
 ghost use Rattle.hold_limits.specs.Problem.{Problem};
 ghost use Rattle.hold_limits.specs.BranchOrder.{Offered, IsBranchOrder, branch_order, ordered};
 ghost use Rattle.hold_limits.specs.Placement.{placed, key_cmp, IsSound, IsAdmissible, IsBest};
 ghost use Rattle.hold_limits.specs.Enumeration.{is_admissible, best_by_trial};
+ghost use Rattle.hold_limits.specs.Layout.{Layout};
+ghost use Rattle.hold_limits.specs.Faults.{IsWellSpelled, IsLawfulHold, IsLawful, hold_fault, task_fault};
+ghost use Rattle.hold_limits.specs.Bounds.{KeepsHoldRules, KeepsTaskRules};
 
-/// The definitions say what is meant, for every hold and every offer: an offer has exactly one branch order; a
-/// prefix pairs each of its containers with the number at its rank; what a sound prefix begins with is sound, so
-/// that a search may give up a prefix as soon as it is not, and its numbers are those of positions; keys are in one
-/// order; whether a path is admissible can be computed; and where a path is admissible there is exactly one best
-/// path, which trying every path finds.
+/// Facts that hold for every hold and every offer: an offer has exactly one branch order; a prefix pairs each of
+/// its containers with the number at its rank; each beginning of a sound prefix is sound, so that a search may give
+/// up a prefix as soon as it is not; the numbers of a sound prefix are those of positions; keys are totally ordered;
+/// whether a path is admissible can be computed; and where some path is admissible there is exactly one best path,
+/// which trying every path finds.
 ///
-/// The call does nothing. Its contract is what it is for.
+/// The call does nothing: it is there for its contract.
 pub fn placement_laws()
     ensures one_order { (items : List Item) (a b : List Offered)
         → IsBranchOrder items a → IsBranchOrder items b → a ≡ b }
@@ -36,4 +39,18 @@ pub fn placement_laws()
         → IsAdmissible t path → (best : List ℕ) × IsBest t best }
     ensures by_trial { (t : Problem)
         → MatchOption (best_by_trial t) ((path : List ℕ) → IsAdmissible t path → ⊥) (IsBest t) }
+{}
+
+/// A hold or a task has no fault exactly where it keeps its rules: there are few enough of each thing, masses and
+/// indices are in range, names, kinds and identities differ, and limits are on positions of the hold. Code that is
+/// given a lawful task need not test for these.
+///
+/// The call does nothing: it is there for its contract.
+pub fn lawful_bounds()
+    ensures hold { (h : Layout) → IsLawfulHold h → KeepsHoldRules h }
+    ensures task { (t : Problem) → IsLawful t → KeepsTaskRules t }
+    ensures hold_rules { (h : Layout) → hold_fault h ≡ None ↔ KeepsHoldRules h }
+    ensures task_rules { (t : Problem) → IsLawfulHold t.hold → task_fault t ≡ None ↔ KeepsTaskRules t }
+    ensures lawful_hold { (h : Layout) → IsWellSpelled h → KeepsHoldRules h → IsLawfulHold h }
+    ensures lawful_task { (t : Problem) → IsLawfulHold t.hold → KeepsTaskRules t → IsLawful t }
 {}

@@ -4,15 +4,13 @@ ghost use Rattle.hold_limits.specs.Problem.{indices_of, problem_of};
 ghost use Rattle.hold_limits.specs.Faults.{IsLawful, task_fault};
 
 use crate::branch_order::{branch_order, item_at};
-use crate::copies::{copied_items, copied_values};
 use crate::fault::TaskFault;
 use crate::hold::Hold;
-use crate::parts::{Indices, Item, Loose};
-use crate::sameness::{Same, are_same};
 use crate::task_faults::fault_of_task;
 use arrayvec::ArrayVec;
 use desk_base::NoMemory;
-use mass_units::Ticks;
+use hold_parts::{Indices, Item, Loose, Same, are_same, copied};
+use mass_units::{Band, Ticks};
 use std::alloc::Global;
 use std::marker::Model;
 
@@ -64,10 +62,11 @@ impl Task {
     {
         let indices = Indices {
             base,
-            low,
-            high,
-            ideal_low,
-            ideal_high,
+            window: Band { low, high },
+            ideal: Band {
+                low: ideal_low,
+                high: ideal_high,
+            },
         };
         if let Some(fault) = fault_of_task(&hold, &items, &loose, indices) {
             return Err(fault);
@@ -86,12 +85,12 @@ impl Task {
     pub fn copy(&self, alloc: Global) -> Result<Task, NoMemory>
         ensures { IfOk result (λ copy. copy ≡ self.now) }
     {
-        let items = copied_items(alloc, self.items.as_slice())?;
+        let items = copied(alloc, self.items.as_slice())?;
         let order = branch_order(&items);
         Ok(Task {
             hold: self.hold.copy(alloc)?,
             items,
-            loose: copied_values(alloc, self.loose.as_slice())?,
+            loose: self.loose.as_slice().to_vec(alloc)?,
             indices: self.indices,
             order,
         })
@@ -159,27 +158,27 @@ impl Task {
     pub fn low(&self) -> Ticks
         ensures value { result.0 ≡ self.now.low }
     {
-        self.indices.low
+        self.indices.window.low
     }
 
     /// The greatest hold index of the window, in ticks.
     pub fn high(&self) -> Ticks
         ensures value { result.0 ≡ self.now.high }
     {
-        self.indices.high
+        self.indices.window.high
     }
 
     /// The least take-off index of the ideal band, in ticks.
     pub fn ideal_low(&self) -> Ticks
         ensures value { result.0 ≡ self.now.ideal_low }
     {
-        self.indices.ideal_low
+        self.indices.ideal.low
     }
 
     /// The greatest take-off index of the ideal band, in ticks.
     pub fn ideal_high(&self) -> Ticks
         ensures value { result.0 ≡ self.now.ideal_high }
     {
-        self.indices.ideal_high
+        self.indices.ideal.high
     }
 }

@@ -1,14 +1,12 @@
 // A hold of two compartments, fore and aft, and what placements of two containers in it are worth.
 ghost use Rattle.std.specs.Prelude.{◌≤◌, ◌≡◌, All, IfOk, length};
-ghost use Rattle.hold_limits.specs.declared.lists.Fit.{Fit};
-ghost use Rattle.hold_limits.specs.Spellings.{IsKind};
+ghost use Rattle.hold_parts.specs.declared.lists.Fit.{Fit};
+ghost use Rattle.hold_parts.specs.Spellings.{IsKind};
 
 use super::*;
 use crate::fault::TaskFault;
-use crate::lists::Fit;
-use crate::parts::{Item, Loose, Position};
 use crate::sound::is_sound;
-use crate::texts::{Name, UldId};
+use hold_parts::{Fit, Item, Loose, Name, Position, UldId};
 use std::alloc::Global;
 use std::test::Fail;
 
@@ -21,8 +19,8 @@ fn position(
     bulk: bool,
 ) -> Result<Position, Fail>
     requires { compartment ≤ 9 }
-    ensures compartment { IfOk result (λ place. place.compartment ≤ 9) }
-    ensures kinds { IfOk result (λ place. All (λ (fit : Fit). IsKind fit.kind) place.fits) }
+    ensures compartment { IfOk result (λ position. position.compartment ≤ 9) }
+    ensures kinds { IfOk result (λ position. All (λ (fit : Fit). IsKind fit.kind) position.fits) }
 {
     let mut fits = Vec::new(alloc);
     if !bulk {
@@ -77,6 +75,20 @@ fn task(alloc: Global, loose: &[Loose], ideal_low: i64, ideal_high: i64) -> Resu
 
 fn path(numbers: &[u8]) -> Result<Path, Fail> {
     Ok(Path::try_from(numbers)?)
+}
+
+#[test]
+fn a_hold_knows_its_positions_by_number(rt: HostRuntime) -> Result<(), Fail> {
+    let hold = hold(rt.alloc())?;
+    let container = item(b"AKE10001XX", 1500)?;
+    assert_eq!(rt; hold.position_count(), 5);
+    assert_eq!(rt; hold.name_at(3), b"42".as_slice());
+    assert_eq!(rt; hold.name_at(5), b"".as_slice());
+    assert_eq!(rt; hold.influence_at(3), 600);
+    assert!(rt; hold.accepts_at(&container, 3));
+    assert!(rt; !hold.accepts_at(&container, 4));
+    assert!(rt; !hold.exclude_each_other(0, 1));
+    Ok(())
 }
 
 #[test]
@@ -144,7 +156,7 @@ fn the_distance_is_to_the_nearer_end_of_the_band(rt: HostRuntime) -> Result<(), 
 }
 
 #[test]
-fn an_index_beyond_the_limit_is_named_by_its_place(rt: HostRuntime) -> Result<(), Fail> {
+fn an_index_beyond_the_limit_is_named_by_its_number(rt: HostRuntime) -> Result<(), Fail> {
     let alloc = rt.alloc();
     for which in 1..6 {
         let at = |place: usize| Ticks(if place == which { -1_000_000_001 } else { 0 });

@@ -1,21 +1,21 @@
 // Faults of limits that no text of a task can have, since a text names positions that are there.
 ghost use Rattle.std.specs.Prelude.{◌≡◌, ◌≤◌, All, IfOk};
-ghost use Rattle.hold_limits.specs.declared.lists.Fit.{Fit};
-ghost use Rattle.hold_limits.specs.declared.parts.Combined.{Combined};
-ghost use Rattle.hold_limits.specs.declared.parts.Cumulative.{Cumulative};
-ghost use Rattle.hold_limits.specs.Spellings.{IsKind};
+ghost use Rattle.hold_parts.specs.declared.lists.Fit.{Fit};
+ghost use Rattle.hold_parts.specs.declared.parts.Combined.{Combined};
+ghost use Rattle.hold_parts.specs.declared.parts.Cumulative.{Cumulative};
+ghost use Rattle.hold_parts.specs.Spellings.{IsKind};
 
 use super::*;
-use crate::lists::Places;
-use crate::texts::Name;
+use crate::fault::TaskFault;
+use hold_parts::{Name, Places};
 use mass_units::Kg;
 use std::alloc::Global;
 use std::test::Fail;
 
 // A bulk position.
 fn bulk(alloc: Global) -> Result<Position, Fail>
-    ensures digit { IfOk result (λ place. place.compartment ≤ 9) }
-    ensures kinds { IfOk result (λ place. All (λ (fit : Fit). IsKind fit.kind) place.fits) }
+    ensures digit { IfOk result (λ position. position.compartment ≤ 9) }
+    ensures kinds { IfOk result (λ position. All (λ (fit : Fit). IsKind fit.kind) position.fits) }
 {
     Ok(Position {
         name: Name::read(b"51").ok_or("a name")?,
@@ -78,5 +78,14 @@ fn a_combined_limit_names_known_positions(rt: HostRuntime) -> Result<(), Fail> {
         let combined = fault(alloc, Vec::new(alloc), limits, Vec::new(alloc))?;
         assert_eq!(rt; combined, Some(HoldFault::Combined(0)));
     }
+    Ok(())
+}
+
+#[test]
+fn faults_are_printed_in_plain_words(rt: HostRuntime) -> Result<(), Fail> {
+    let fault = HoldFault::SameName(3).to_string(rt.alloc())?;
+    assert_eq!(rt; fault.as_str(), "position 3 has the name of an earlier one");
+    let fault = TaskFault::TooManyItems.to_string(rt.alloc())?;
+    assert_eq!(rt; fault.as_str(), "over 48 containers");
     Ok(())
 }

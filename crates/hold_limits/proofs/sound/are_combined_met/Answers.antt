@@ -1,7 +1,8 @@
 use Rattle.std.proofs.Common.{◌<◌, ◌≤◌, length, subst, sym, arith}
 use Rattle.std.proofs.lemmas.Bool.{false≢true}
-use Rattle.hold_limits.specs.declared.parts.Combined.{Combined}
-use Rattle.hold_limits.specs.Placement.{load_of, is_listed}
+use Rattle.hold_parts.specs.declared.parts.Combined.{Combined}
+use Rattle.hold_limits.specs.Placement.{load_of}
+use Rattle.hold_parts.specs.Limits.{is_listed}
 use Rattle.hold_limits.proofs.sound.are_combined_met.Goals as goal
 
 pub returns-then-not-is_combined_met : goal.returns-then-not-is_combined_met

@@ -4,4 +4,4 @@ use Rattle.hold_limits.specs.Placement.{Exclude}
 use Rattle.hold_limits.proofs.sound.are_compatible.Given as goal
 
 abbrev pub invariant-loop-rank : goal.invariant-loop-rank
-invariant-loop-rank l = AllPairs (λ a b. Exclude l.hold a b → ⊥) (take l.rank l.prefix)
+invariant-loop-rank l = AllPairs (λ a b. Exclude l.task.hold a b → ⊥) (take l.rank l.prefix)

@@ -1,6 +1,7 @@
 use Rattle.std.proofs.Common.{ℕ, ◌<◌, ◌≤◌, get_or}
-use Rattle.hold_limits.specs.declared.parts.Cumulative.{Cumulative}
-use Rattle.hold_limits.specs.Placement.{load_of, is_counted}
+use Rattle.hold_parts.specs.declared.parts.Cumulative.{Cumulative}
+use Rattle.hold_limits.specs.Placement.{load_of}
+use Rattle.hold_parts.specs.Limits.{is_counted}
 use Rattle.hold_limits.proofs.sound.are_cumulative_met.Given as goal
 
 abbrev pub invariant-loop-limit : goal.invariant-loop-limit

@@ -1,19 +1,19 @@
 use Rattle.std.proofs.Common.{◌≤◌, List, [], ◌∷◌}
 use Rattle.std.proofs.lemmas.List.Elements.{All-nil, All-from_recursion, All-same}
 use Rattle.std.specs.Prelude.{All}
-use Rattle.hold_limits.specs.declared.lists.Fit.{Fit}
-use Rattle.hold_limits.specs.declared.parts.Position.{Position}
-use Rattle.hold_limits.specs.declared.parts.Combined.{Combined}
-use Rattle.hold_limits.specs.declared.parts.Cumulative.{Cumulative}
-use Rattle.hold_limits.specs.Spellings.{IsKind}
+use Rattle.hold_parts.specs.declared.lists.Fit.{Fit}
+use Rattle.hold_parts.specs.declared.parts.Position.{Position}
+use Rattle.hold_parts.specs.declared.parts.Combined.{Combined}
+use Rattle.hold_parts.specs.declared.parts.Cumulative.{Cumulative}
+use Rattle.hold_parts.specs.Spellings.{IsKind}
 use Rattle.hold_limits.proofs.balance.tests.hold.Goals as goal
 
 -- what the reader of a hold makes sure of at each position
 HasDigit : Position → Type 0
-HasDigit place = place.compartment ≤ 9
+HasDigit position = position.compartment ≤ 9
 
 HasKinds : Position → Type 0
-HasKinds place = All (λ (fit : Fit). IsKind fit.kind) place.fits
+HasKinds position = All (λ (fit : Fit). IsKind fit.kind) position.fits
 
 pub new-requires-4 : goal.new-requires-4
 unfolding HasDigit HasKinds

@@ -1,16 +1,16 @@
 use Rattle.std.proofs.Common.{◌≤◌, List, [], ◌∷◌}
 use Rattle.std.proofs.lemmas.List.Elements.{All-from_recursion, All-same}
 use Rattle.std.specs.Prelude.{All}
-use Rattle.hold_limits.specs.declared.lists.Fit.{Fit}
-use Rattle.hold_limits.specs.declared.parts.Position.{Position}
-use Rattle.hold_limits.specs.Spellings.{IsKind}
+use Rattle.hold_parts.specs.declared.lists.Fit.{Fit}
+use Rattle.hold_parts.specs.declared.parts.Position.{Position}
+use Rattle.hold_parts.specs.Spellings.{IsKind}
 use Rattle.hold_limits.proofs.hold.tests.fault.Goals as goal
 
 HasDigit : Position → Type 0
-HasDigit place = place.compartment ≤ 9
+HasDigit position = position.compartment ≤ 9
 
 HasKinds : Position → Type 0
-HasKinds place = All (λ (fit : Fit). IsKind fit.kind) place.fits
+HasKinds position = All (λ (fit : Fit). IsKind fit.kind) position.fits
 
 pub new-requires : goal.new-requires
 unfolding HasDigit HasKinds

@@ -1,7 +1,0 @@
-use Rattle.std.proofs.Common.{◌≡◌, None}
-use Rattle.desk_base.specs.Lists.{first_below, repeats_at}
-use Rattle.hold_limits.specs.Faults.{same_kind}
-use Rattle.hold_limits.proofs.hold_faults.repeated_kind.Given as goal
-
-abbrev pub invariant-loop-at : goal.invariant-loop-at
-invariant-loop-at l = first_below (repeats_at same_kind l.fits) l.at ≡ None

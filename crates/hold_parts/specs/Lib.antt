@@ -1,0 +1,4 @@
+pub mod Spellings
+pub mod Accepting
+pub mod Limits
+pub mod Repeats

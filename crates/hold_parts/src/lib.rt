@@ -1,0 +1,25 @@
+//! The parts of a hold and of a loading task: positions with the kinds and masses that they accept, combined and
+//! cumulative limits, containers, loose loads, and their names and identities.
+#![tactic(auto)]
+
+mod accepting;
+mod copies;
+mod limit;
+mod lists;
+mod parts;
+mod repeats;
+mod sameness;
+mod spellings;
+mod texts;
+
+pub use copies::{Copyable, copied};
+pub use limit::Limit;
+pub use lists::{Fit, Fits, Places};
+pub use parts::{Combined, Cumulative, Indices, Item, Loose, Position};
+pub use repeats::{Alike, first_repeat};
+pub use sameness::{Same, are_same};
+pub use spellings::is_kind;
+pub use texts::{Name, UldId};
+
+#[cfg(test)]
+mod tests;

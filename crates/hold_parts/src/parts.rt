@@ -1,0 +1,58 @@
+//! The parts of a hold and of a task.
+
+use crate::lists::{Fits, Places};
+use crate::texts::{Name, UldId};
+use mass_units::{Band, Kg, Ticks};
+
+/// A position of a hold.
+#[derive(Debug, Drop)]
+pub struct Position {
+    pub name: Name,
+    /// The compartment's number, one digit.
+    pub compartment: u8,
+    /// Ticks of the index for each kilogram on the position, positive towards the tail.
+    pub influence: i32,
+    /// Whether the position takes loose loads instead of containers.
+    pub bulk: bool,
+    pub fits: Fits,
+}
+
+/// The masses on the listed positions are together at most `most`.
+#[derive(Debug, Drop)]
+pub struct Combined {
+    pub places: Places,
+    pub most: Kg,
+}
+
+/// The masses on all positions up to and including `place` if `forward`, or else from `place` on, are together at
+/// most `most`.
+#[derive(Clone, Copy, Debug, PartialEq, Eq)]
+pub struct Cumulative {
+    pub forward: bool,
+    pub place: u8,
+    pub most: Kg,
+}
+
+/// A container of the offer.
+#[derive(Debug, Drop)]
+pub struct Item {
+    pub id: UldId,
+    pub mass: Kg,
+}
+
+/// A loose load on a bulk position.
+#[derive(Clone, Copy, Debug, PartialEq, Eq)]
+pub struct Loose {
+    pub position: u8,
+    pub mass: Kg,
+}
+
+/// The indices of a task, in ticks: the take-off index is `base` and the hold index.
+#[derive(Clone, Copy, Debug, PartialEq, Eq)]
+pub struct Indices {
+    pub base: Ticks,
+    /// The window for the hold index.
+    pub window: Band,
+    /// The ideal band for the take-off index.
+    pub ideal: Band,
+}
