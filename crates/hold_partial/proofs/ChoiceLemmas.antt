@@ -11,7 +11,7 @@ use Rattle.std.specs.Bool.{Decides}
 use Rattle.std.specs.Int.{int_min, int_max}
 use Rattle.std.specs.List.{AllByRecursion, filter, fold, list_all, list_any, range_with_len}
 use Rattle.desk_base.specs.Lists.{int_sum_by}
-use Rattle.hold_limits.specs.declared.parts.Item.{Item}
+use Rattle.hold_parts.specs.declared.parts.Item.{Item}
 use Rattle.hold_limits.specs.Problem.{Problem}
 use Rattle.hold_limits.specs.Placement.{Placed, Exclude, placed_moment, hold_index}
 use Rattle.hold_limits.specs.Enumeration.{exclude}

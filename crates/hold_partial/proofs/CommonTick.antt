@@ -10,5 +10,5 @@ common-from a b c d ab ad cb cd = ⊎_elim
     (λ (not : int_lt a c ≡ false). record { tick = a; from_a = omega (arith, ints); to_b = ab; from_c = omega (arith, ints); to_d = ad })
     (cases_Bool (int_lt a c))
 
-pub common-tells : (a b c d : ℤ) → HaveCommonTick a b c d → (a ≤ℤ b) × (a ≤ℤ d) × (c ≤ℤ b) × (c ≤ℤ d)
-common-tells a b c d common = (omega (arith, ints), omega (arith, ints), omega (arith, ints), omega (arith, ints))
+pub common-bounds : (a b c d : ℤ) → HaveCommonTick a b c d → (a ≤ℤ b) × (a ≤ℤ d) × (c ≤ℤ b) × (c ≤ℤ d)
+common-bounds a b c d common = (omega (arith, ints), omega (arith, ints), omega (arith, ints), omega (arith, ints))

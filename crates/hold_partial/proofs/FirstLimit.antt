@@ -5,11 +5,12 @@ use Rattle.std.proofs.lemmas.Bool.Decides.{nat_tests}
 use Rattle.std.specs.Prelude.{slice_get, position}
 use Rattle.std.specs.List.{AllByRecursion, filter, find, range_with_len, position_or_len}
 use Rattle.std.specs.Option.{option_or, option_map_or}
-use Rattle.hold_limits.specs.declared.parts.Combined.{Combined}
-use Rattle.hold_limits.specs.declared.parts.Cumulative.{Cumulative}
+use Rattle.hold_parts.specs.declared.parts.Combined.{Combined}
+use Rattle.hold_parts.specs.declared.parts.Cumulative.{Cumulative}
 use Rattle.hold_limits.specs.Layout.{Layout}
 use Rattle.hold_limits.specs.Problem.{Problem}
-use Rattle.hold_limits.specs.Placement.{is_listed, is_counted, load_of}
+use Rattle.hold_limits.specs.Placement.{load_of}
+use Rattle.hold_parts.specs.Limits.{is_listed, is_counted}
 use Rattle.hold_partial.specs.declared.rule.RuleBroken.TheVariants as rule
 use Rattle.hold_partial.specs.Limits.{Allowance, limits_of, rule_at}
 use Rattle.hold_partial.specs.Rules.{breaks_combined, breaks_cumulative, limit_broken}

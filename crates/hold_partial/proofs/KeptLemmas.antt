@@ -1,4 +1,4 @@
--- what the parts of a partial placement tell of its prefix
+-- what the parts of a partial placement say about its prefix
 use Rattle.std.proofs.Common.{◌≡◌, ⊎_elim, ℕ, zero, suc, ◌+◌, ◌<◌, ◌≤◌, Bool, true, false, ◌&&◌, ◌||◌, nat_lt, nat_le, List, ◌∷◌, [], ◌++◌, length, get_or, take, map, Option, Some, None, refl, ap, sym, subst, ◌∙◌, arith, length-append, ◌≢◌, set, drop, not, ◌-◌, length-drop, unsigned_abs, get_or-set_same, get_or-set_other}
 use Rattle.std.proofs.Math.Nat.{eq-or-lt_of_le}
 use Rattle.std.proofs.lemmas.Bool.{cases_Bool, and_parts, and_from, false≢true}
@@ -8,40 +8,41 @@ use Rattle.std.specs.Prelude.{slice_get, All}
 use Rattle.arrayvec.specs.ArrayVec.{ArrayVec}
 use Rattle.desk_base.specs.Lists.{first_below}
 use Rattle.desk_base.proofs.ListLemmas.{first_below-some}
-use Rattle.hold_limits.specs.declared.parts.Combined.{Combined}
-use Rattle.hold_limits.specs.declared.parts.Cumulative.{Cumulative}
-use Rattle.hold_limits.specs.declared.parts.Item.{Item}
+use Rattle.hold_parts.specs.declared.parts.Combined.{Combined}
+use Rattle.hold_parts.specs.declared.parts.Cumulative.{Cumulative}
+use Rattle.hold_parts.specs.declared.parts.Item.{Item}
 use Rattle.hold_limits.specs.declared.fault.HoldFault.TheVariants as hold
 use Rattle.hold_limits.specs.Layout.{Layout}
 use Rattle.hold_limits.specs.Problem.{Problem}
 use Rattle.hold_limits.specs.BranchOrder.{ordered}
 use Rattle.hold_limits.specs.Enumeration.{is_accepted, exclude}
 use Rattle.hold_limits.specs.Faults.{IsLawful, position_fault, limit_fault, fault_if, has_too_many}
-use Rattle.hold_limits.specs.Placement.{is_listed, is_counted, IsSound}
+use Rattle.hold_limits.specs.Placement.{IsSound}
+use Rattle.hold_parts.specs.Limits.{is_listed, is_counted}
 use Rattle.hold_limits.proofs.FaultLemmas.{option_or-none, fault_if-none}
 use Rattle.hold_limits.proofs.LawfulBounds.{lawful-bounds}
 use Rattle.hold_limits.proofs.MomentLemmas.{influence_at-bound}
 use Rattle.hold_limits.proofs.SoundLemmas.{IsSound-within}
 use Rattle.hold_partial.specs.declared.demand.Demand.{Demand}
-use Rattle.hold_partial.specs.declared.ends.Ends.{Ends}
+use Rattle.mass_units.specs.declared.Band.{Band}
 use Rattle.hold_partial.specs.declared.level.Level.{Level}
-use Rattle.hold_partial.specs.declared.place.Place.{Place}
+use Rattle.hold_partial.specs.declared.position_table.PositionEntry.{PositionEntry}
 use Rattle.hold_partial.specs.declared.position_set.PositionSet.{PositionSet}
 use Rattle.hold_partial.specs.declared.tables.Tables.{Tables}
 use Rattle.hold_partial.specs.Arrangement.{Ranked}
-use Rattle.hold_partial.specs.Ends.{HasEnds}
+use Rattle.hold_partial.specs.Bands.{IsBandOf}
 use Rattle.hold_partial.specs.Kept.{AreTables, IsKept}
-use Rattle.hold_partial.specs.Levels.{IsLevel, AreRankEnds}
+use Rattle.hold_partial.specs.Levels.{IsLevel, IsRankBand}
 use Rattle.hold_partial.specs.Limits.{Allowance, limits_of, limits_on}
 use Rattle.hold_partial.specs.Reach.{open_moments, remaining}
 use Rattle.hold_partial.specs.Rules.{is_used, has_kind_at, excluding}
 use Rattle.hold_partial.specs.Sets.{has}
-use Rattle.hold_partial.specs.Tables.{IsDemand, IsPlace}
+use Rattle.hold_partial.specs.Tables.{IsDemand, IsPositionEntry}
 use Rattle.hold_partial.proofs.LevelSteps.{hold_index-bound, open-ranks}
 use Rattle.hold_partial.proofs.LoadLemmas.{mass-at}
 use Rattle.hold_partial.proofs.LoadSteps.{each-on}
-use Rattle.hold_partial.proofs.RankLemmas.{rank-ends, rank-passes}
-use Rattle.hold_partial.proofs.SoundNext.{next-item}
+use Rattle.hold_partial.proofs.RankLemmas.{rank-band, rank-passes}
+use Rattle.hold_partial.proofs.ReachLemmas.{next-item}
 
 -- Parts -----------------------------------------------------------------------------------------
 
@@ -57,11 +58,11 @@ demand-is t tables prepared demands rank d item same there =
     let P : List Demand → Type 0 = λ ds. IsDemand t.hold tables.ranks.items item (get_or ds rank d) in
     subst P (sym same) (prepared.demands.each rank d item there)
 
-pub place-is : (t : Problem) (tables : Tables) → AreTables t tables → (places : List Place) (q : ℕ) (d : Place) → places ≡ tables.places.items → q < length t.hold.positions
-    → IsPlace t.hold tables.ranks.items q (get_or places q d)
-place-is t tables prepared places q d same known =
-    let P : List Place → Type 0 = λ ps. IsPlace t.hold tables.ranks.items q (get_or ps q d) in
-    subst P (sym same) (prepared.places.each q d known)
+pub entry-is : (t : Problem) (tables : Tables) → AreTables t tables → (places : List PositionEntry) (q : ℕ) (d : PositionEntry) → places ≡ tables.positions.items → q < length t.hold.positions
+    → IsPositionEntry t.hold tables.ranks.items q (get_or places q d)
+entry-is t tables prepared places q d same known =
+    let P : List PositionEntry → Type 0 = λ ps. IsPositionEntry t.hold tables.ranks.items q (get_or ps q d) in
+    subst P (sym same) (prepared.positions.each q d known)
 
 pub list-is : (t : Problem) (tables : Tables) → AreTables t tables → (lists : List (ArrayVec ℕ)) (q : ℕ) (found : ArrayVec ℕ) (limits : List ℕ) → lists ≡ tables.limits.items → q < length t.hold.positions
     → found ≡ get_or lists q found → limits ≡ found.items → limits ≡ limits_on t.hold q
@@ -143,18 +144,18 @@ excluding-not hold prefix q set same none =
 
 -- what is known of a position and of the next container
 pub at-front : (t : Problem) (prefix : List ℕ) (tables : Tables) (levels : List Level) (loads : List ℕ) → IsKept t prefix tables levels loads
-    → (q count rank : ℕ) (l : Level) (demands : List Demand) (d : Demand) (item : Item) → count ≡ length tables.places.items → q < count → rank ≡ length prefix → demands ≡ tables.demands.items
+    → (q count rank : ℕ) (l : Level) (demands : List Demand) (d : Demand) (item : Item) → count ≡ length tables.positions.items → q < count → rank ≡ length prefix → demands ≡ tables.demands.items
     → slice_get (ordered t.items) (length prefix) ≡ Some item
     → (q < length t.hold.positions) × (nat_le (length t.hold.positions) q ≡ false) × (has (get_or levels rank l).used q ≡ is_used prefix q)
-    × (has (get_or demands rank d).of_kind q ≡ has_kind_at t.hold item q) × (has (get_or demands rank d).taking q ≡ is_accepted t.hold (item, q)) × ((get_or demands rank d).mass.0 ≡ item.mass.0)
+    × (has (get_or demands rank d).of_kind q ≡ has_kind_at t.hold item q) × (has (get_or demands rank d).accepting q ≡ is_accepted t.hold (item, q)) × ((get_or demands rank d).mass.0 ≡ item.mass.0)
 at-front t prefix tables levels loads kept q count rank l demands d item counted below is same there =
-    let less : q < length t.hold.positions = omega (arith, kept.prepared.places.count) in
+    let less : q < length t.hold.positions = omega (arith, kept.prepared.positions.count) in
     let demand = demand-is t tables kept.prepared demands rank d item same (rw (← is) at there) in (
       less,
       grind (arith, nat_tests),
       (level-is t prefix tables levels loads kept rank l is).used q,
       demand.of_kind q,
-      demand.taking q,
+      demand.accepting q,
       demand.mass,
     )
 
@@ -210,9 +211,9 @@ level-bounded t prefix tables levels loads kept rank d is =
     let level = level-is t prefix tables levels loads kept rank d is in
     omega (arith, ap unsigned_abs level.index, hold_index-bound t kept.lawful prefix kept.sound.short)
 
-pub place-near : (t : Problem) (tables : Tables) → IsLawful t → AreTables t tables → (places : List Place) (q : ℕ) (d : Place) → places ≡ tables.places.items → q < length t.hold.positions → unsigned_abs (get_or places q d).influence ≤ 100000
-place-near t tables lawful prepared places q d same known =
-    let place = place-is t tables prepared places q d same known in
+pub entry-near : (t : Problem) (tables : Tables) → IsLawful t → AreTables t tables → (places : List PositionEntry) (q : ℕ) (d : PositionEntry) → places ≡ tables.positions.items → q < length t.hold.positions → unsigned_abs (get_or places q d).influence ≤ 100000
+entry-near t tables lawful prepared places q d same known =
+    let place = entry-is t tables prepared places q d same known in
     omega (arith, ap unsigned_abs place.influence, influence_at-bound t (lawful-bounds t lawful) q)
 
 -- Remaining containers --------------------------------------------------------------------------
@@ -229,18 +230,18 @@ remaining-demand t tables prepared demands placed i d item same there =
 pub remaining-start : (t : Problem) (prefix : List ℕ) (placed : ℕ) → placed ≡ length prefix → drop (placed + 0) (ordered t.items) ≡ remaining t prefix
 remaining-start t prefix placed is = ap (λ n. drop n (ordered t.items)) (omega (arith, is))
 
--- the ends by sets of ranks are those of the moments on open positions
-pub ends-of : (t : Problem) (prefix : List ℕ) (tables : Tables) → AreTables t tables → (level : Level) → IsLevel t tables.ranks.items prefix level → (demand : Demand) (item : Item) → IsDemand t.hold tables.ranks.items item demand
-    → (ranks : List Ranked) → ranks ≡ tables.ranks.items → (ends : Option Ends) → AreRankEnds (λ r. has demand.taking_ranks r && not (has level.taken_ranks r)) demand.mass.0 ranks ends → HasEnds (open_moments t prefix item) ends
-ends-of t prefix tables prepared level is_level demand item is_demand ranks same ends are =
-    let passes : ℕ → Bool = λ r. has demand.taking_ranks r && not (has level.taken_ranks r) in
-    let P : ℕ → Type 0 = λ mass. AreRankEnds passes mass tables.ranks.items ends in
-    let Q : List Ranked → Type 0 = λ rs. AreRankEnds passes demand.mass.0 rs ends in
-    rank-ends t prefix item tables.ranks.items prepared.ranks passes (open-ranks t tables.ranks.items prefix item demand level is_level is_demand) ends (subst P is_demand.mass (subst Q same are))
+-- the band by sets of ranks is that of the moments on open positions
+pub moment-band : (t : Problem) (prefix : List ℕ) (tables : Tables) → AreTables t tables → (level : Level) → IsLevel t tables.ranks.items prefix level → (demand : Demand) (item : Item) → IsDemand t.hold tables.ranks.items item demand
+    → (ranks : List Ranked) → ranks ≡ tables.ranks.items → (band : Option Band) → IsRankBand (λ r. has demand.accepting_ranks r && not (has level.blocked_ranks r)) demand.mass.0 ranks band → IsBandOf (open_moments t prefix item) band
+moment-band t prefix tables prepared level is_level demand item is_demand ranks same band are =
+    let passes : ℕ → Bool = λ r. has demand.accepting_ranks r && not (has level.blocked_ranks r) in
+    let P : ℕ → Type 0 = λ mass. IsRankBand passes mass tables.ranks.items band in
+    let Q : List Ranked → Type 0 = λ rs. IsRankBand passes demand.mass.0 rs band in
+    rank-band t prefix item tables.ranks.items prepared.ranks passes (open-ranks t tables.ranks.items prefix item demand level is_level is_demand) band (subst P is_demand.mass (subst Q same are))
 
 -- a rank that accepts a container is one of the table's
 pub rank-within : (t : Problem) (tables : Tables) (demand : Demand) (item : Item) → IsDemand t.hold tables.ranks.items item demand → (ranks : List Ranked) → ranks ≡ tables.ranks.items
-    → (r : ℕ) → has demand.taking_ranks r ≡ true → r < length ranks
+    → (r : ℕ) → has demand.accepting_ranks r ≡ true → r < length ranks
 rank-within t tables demand item is_demand ranks same r passes =
-    let found = rank-passes (λ q. is_accepted t.hold (item, q)) tables.ranks.items r (sym (is_demand.taking_ranks r) ∙ passes) in
+    let found = rank-passes (λ q. is_accepted t.hold (item, q)) tables.ranks.items r (sym (is_demand.accepting_ranks r) ∙ passes) in
     omega (arith, found.1, ap length same)

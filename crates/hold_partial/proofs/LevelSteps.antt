@@ -8,24 +8,25 @@ use Rattle.std.proofs.lemmas.Option.{slice_get_cases}
 use Rattle.std.specs.Prelude.{slice_get}
 use Rattle.std.specs.List.{list_any}
 use Rattle.desk_base.specs.Lists.{int_sum_by}
-use Rattle.hold_limits.specs.declared.parts.Item.{Item}
+use Rattle.hold_parts.specs.declared.parts.Item.{Item}
 use Rattle.hold_limits.specs.Layout.{Layout}
 use Rattle.hold_limits.specs.Problem.{Problem}
 use Rattle.hold_limits.specs.BranchOrder.{ordered}
 use Rattle.hold_limits.specs.Faults.{IsLawful}
 use Rattle.hold_limits.specs.Enumeration.{is_accepted, exclude}
 use Rattle.hold_limits.specs.Placement.{placed, placed_moment, loose_moment, influence_at, hold_index}
-use Rattle.hold_limits.proofs.MomentLemmas.{int_sum_by-push, placed-bound, placed-all, loose-bound, abs-sum}
+use Rattle.hold_limits.proofs.MomentLemmas.{placed-bound, placed-all, loose-bound, abs-sum}
+use Rattle.desk_base.proofs.SignedSums.{int_sum_by-push}
 use Rattle.hold_partial.specs.declared.demand.Demand.{Demand}
 use Rattle.hold_partial.specs.declared.level.Level.{Level}
-use Rattle.hold_partial.specs.declared.place.Place.{Place}
+use Rattle.hold_partial.specs.declared.position_table.PositionEntry.{PositionEntry}
 use Rattle.hold_partial.specs.Arrangement.{Ranked, at_rank}
-use Rattle.hold_partial.specs.Levels.{is_taken, IsLevel}
+use Rattle.hold_partial.specs.Levels.{is_blocked, IsLevel}
 use Rattle.hold_partial.specs.Reach.{is_open}
 use Rattle.hold_partial.specs.Rules.{is_used}
 use Rattle.hold_partial.specs.Sets.{has}
-use Rattle.hold_partial.specs.Tables.{IsDemand, IsPlace}
-use Rattle.hold_partial.proofs.SoundNext.{placed-push}
+use Rattle.hold_partial.specs.Tables.{IsDemand, IsPositionEntry}
+use Rattle.hold_partial.proofs.RuleLemmas.{placed-push}
 
 -- The hold index --------------------------------------------------------------------------------
 
@@ -34,7 +35,7 @@ pub hold_index-next : (t : Problem) (prefix : List ℕ) (item : Item) (q : ℕ) 
     → hold_index t (prefix ++ q ∷ []) ≡ hold_index t prefix +ℤ (pos item.mass.0 *ℤ influence_at t.hold q)
 hold_index-next t prefix item q within there =
     let more : int_sum_by (placed_moment t.hold) (placed t (prefix ++ q ∷ [])) ≡ int_sum_by (placed_moment t.hold) (placed t prefix) +ℤ placed_moment t.hold (item, q) =
-    ap (int_sum_by (placed_moment t.hold)) (placed-push t prefix item q within there) ∙ int_sum_by-push (placed_moment t.hold) (placed t prefix) (item, q) in
+    ap (int_sum_by (placed_moment t.hold)) (placed-push t prefix item q there) ∙ int_sum_by-push (placed_moment t.hold) (placed t prefix) (item, q) in
     omega (arith, ints, more)
 
 -- the hold index of a prefix of a lawful task
@@ -64,8 +65,8 @@ shuffle false true false d = refl
 shuffle false false true d = refl
 shuffle false false false d = refl
 
-is_taken-next : (hold : Layout) (prefix : List ℕ) (q a : ℕ) → is_taken hold (prefix ++ q ∷ []) a ≡ (is_taken hold prefix a || ((q == a) || exclude hold q a))
-is_taken-next hold prefix q a =
+is_blocked-next : (hold : Layout) (prefix : List ℕ) (q a : ℕ) → is_blocked hold (prefix ++ q ∷ []) a ≡ (is_blocked hold prefix a || ((q == a) || exclude hold q a))
+is_blocked-next hold prefix q a =
     ap₂ ◌||◌ (list_any-append (λ used. used == a) prefix (q ∷ []) ∙ or-false (is_used prefix a) (q == a))
     (list_any-append (λ used. exclude hold used a) prefix (q ∷ []) ∙ or-false (list_any (λ used. exclude hold used a) prefix) (exclude hold q a))
     ∙ shuffle (is_used prefix a) (q == a) (list_any (λ used. exclude hold used a) prefix) (exclude hold q a)
@@ -77,27 +78,27 @@ at_rank-or f g h ranks same r = ⊎_elim
     (slice_get_cases ranks r).1
 
 -- the level of a prefix with one container more
-pub level-next : (t : Problem) (ranks : List Ranked) (prefix : List ℕ) (item : Item) (q : ℕ) (demand : Demand) (place : Place) (level next : Level)
+pub level-next : (t : Problem) (ranks : List Ranked) (prefix : List ℕ) (item : Item) (q : ℕ) (demand : Demand) (place : PositionEntry) (level next : Level)
     → length prefix < length t.items → slice_get (ordered t.items) (length prefix) ≡ Some item
-    → IsLevel t ranks prefix level → IsDemand t.hold ranks item demand → IsPlace t.hold ranks q place
+    → IsLevel t ranks prefix level → IsDemand t.hold ranks item demand → IsPositionEntry t.hold ranks q place
     → ((a : ℕ) → has next.used a ≡ (has level.used a || (a == q)))
-    → ((r : ℕ) → has next.taken_ranks r ≡ (has level.taken_ranks r || has place.taken_ranks r))
+    → ((r : ℕ) → has next.blocked_ranks r ≡ (has level.blocked_ranks r || has place.blocked_ranks r))
     → next.index.0 ≡ level.index.0 +ℤ (pos demand.mass.0 *ℤ place.influence)
     → IsLevel t ranks (prefix ++ q ∷ []) next
-level-next t ranks prefix item q demand place level next within there is_level is_demand is_place used taken index = record {
+level-next t ranks prefix item q demand place level next within there is_level is_demand is_entry used taken index = record {
   used = λ a. used a ∙ ap (λ b. b || (a == q)) (is_level.used a) ∙ sym (is_used-next prefix q a);
-  taken_ranks = λ r. taken r ∙ ap₂ ◌||◌ (is_level.taken_ranks r) (is_place.taken_ranks r) ∙ at_rank-or (is_taken t.hold prefix) (λ a. (q == a) || exclude t.hold q a) (is_taken t.hold (prefix ++ q ∷ [])) ranks (is_taken-next t.hold prefix q) r;
+  blocked_ranks = λ r. taken r ∙ ap₂ ◌||◌ (is_level.blocked_ranks r) (is_entry.blocked_ranks r) ∙ at_rank-or (is_blocked t.hold prefix) (λ a. (q == a) || exclude t.hold q a) (is_blocked t.hold (prefix ++ q ∷ [])) ranks (is_blocked-next t.hold prefix q) r;
   index =
       index
-      ∙ ap₂ (λ i m. i +ℤ m) is_level.index (ap₂ (λ m f. pos m *ℤ f) is_demand.mass is_place.influence)
+      ∙ ap₂ (λ i m. i +ℤ m) is_level.index (ap₂ (λ m f. pos m *ℤ f) is_demand.mass is_entry.influence)
       ∙ sym (hold_index-next t prefix item q within there);
 }
 
 -- the level of the empty prefix
-pub level-start : (t : Problem) (ranks : List Ranked) (level : Level) → ((a : ℕ) → has level.used a ≡ false) → ((r : ℕ) → has level.taken_ranks r ≡ false) → level.index.0 ≡ hold_index t [] → IsLevel t ranks [] level
+pub level-start : (t : Problem) (ranks : List Ranked) (level : Level) → ((a : ℕ) → has level.used a ≡ false) → ((r : ℕ) → has level.blocked_ranks r ≡ false) → level.index.0 ≡ hold_index t [] → IsLevel t ranks [] level
 level-start t ranks level used taken index = record {
   used = used;
-  taken_ranks = λ r. taken r ∙ ⊎_elim (λ here. sym (rw here.2 refl)) (λ past. sym (rw past.1 refl)) (slice_get_cases ranks r).1;
+  blocked_ranks = λ r. taken r ∙ ⊎_elim (λ here. sym (rw here.2 refl)) (λ past. sym (rw past.1 refl)) (slice_get_cases ranks r).1;
   index = index;
 }
 
@@ -108,11 +109,11 @@ open-by false used excluded = refl
 open-by true true excluded = refl
 open-by true false excluded = refl
 
--- a rank that accepts the container and is not taken is that of an open position
+-- a rank that accepts the container and is not blocked is that of an open position
 pub open-ranks : (t : Problem) (ranks : List Ranked) (prefix : List ℕ) (item : Item) (demand : Demand) (level : Level) → IsLevel t ranks prefix level → IsDemand t.hold ranks item demand
-    → (r : ℕ) → (has demand.taking_ranks r && not (has level.taken_ranks r)) ≡ at_rank (is_open t prefix item) ranks r
+    → (r : ℕ) → (has demand.accepting_ranks r && not (has level.blocked_ranks r)) ≡ at_rank (is_open t prefix item) ranks r
 open-ranks t ranks prefix item demand level is_level is_demand r =
-    ap₂ (λ a b. a && not b) (is_demand.taking_ranks r) (is_level.taken_ranks r)
+    ap₂ (λ a b. a && not b) (is_demand.accepting_ranks r) (is_level.blocked_ranks r)
     ∙ ⊎_elim
     (λ here. rw here.2 (open-by (is_accepted t.hold (item, here.0.1)) (is_used prefix here.0.1) (list_any (λ used. exclude t.hold used here.0.1) prefix)))
     (λ past. rw past.1 refl)

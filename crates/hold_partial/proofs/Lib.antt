@@ -2,9 +2,8 @@ pub mod RuleLemmas
 pub mod ChoiceLemmas
 pub mod ViableLemmas
 pub mod LoadLemmas
-pub mod EndsLemmas
+pub mod BandLemmas
 pub mod ReachLemmas
-pub mod SoundNext
 pub mod CommonTick
 pub mod SetLemmas
 pub mod ArrangementLemmas

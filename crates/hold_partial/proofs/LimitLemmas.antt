@@ -11,8 +11,8 @@ use Rattle.hold_limits.specs.Problem.{Problem}
 use Rattle.hold_limits.specs.BranchOrder.{ordered}
 use Rattle.hold_limits.specs.Placement.{placed, load_of, loose_load}
 use Rattle.hold_partial.specs.Limits.{added_at}
-use Rattle.hold_partial.proofs.EndsLemmas.{range-more}
-use Rattle.hold_partial.proofs.SoundNext.{zip-none}
+use Rattle.hold_partial.proofs.BandLemmas.{range-more}
+use Rattle.hold_partial.proofs.RuleLemmas.{zip-nil}
 
 -- Tables ----------------------------------------------------------------------------------------
 
@@ -68,4 +68,4 @@ added-within mass limits i within =
 
 -- the load of a set while no container is placed is that of the loose loads
 pub load-empty : (is_in : ℕ → Bool) (t : Problem) → load_of is_in t [] ≡ loose_load is_in t.loose
-load-empty is_in t = let none : placed t [] ≡ [] = zip-none (ordered t.items) [] refl in rw none (omega arith)
+load-empty is_in t = let none : placed t [] ≡ [] = zip-nil (ordered t.items) in rw none (omega arith)

@@ -8,19 +8,20 @@ use Rattle.std.proofs.lemmas.Option.{slice_get_cases, slice_get_within, get_or_f
 use Rattle.std.specs.Prelude.{slice_get, slice_index, All, if◌then◌else◌}
 use Rattle.std.specs.List.{AllByRecursion, filter, find, range_with_len}
 use Rattle.std.specs.Option.{option_map_or}
-use Rattle.hold_limits.specs.declared.parts.Combined.{Combined}
-use Rattle.hold_limits.specs.declared.parts.Cumulative.{Cumulative}
-use Rattle.hold_limits.specs.declared.parts.Item.{Item}
+use Rattle.hold_parts.specs.declared.parts.Combined.{Combined}
+use Rattle.hold_parts.specs.declared.parts.Cumulative.{Cumulative}
+use Rattle.hold_parts.specs.declared.parts.Item.{Item}
 use Rattle.hold_limits.specs.Layout.{Layout}
 use Rattle.hold_limits.specs.Problem.{Problem}
 use Rattle.hold_limits.specs.BranchOrder.{ordered}
 use Rattle.hold_limits.specs.Faults.{IsLawful}
-use Rattle.hold_limits.specs.Placement.{Placed, placed, is_listed, is_counted, placed_load, load_of, IsSound}
+use Rattle.hold_limits.specs.Placement.{Placed, placed, placed_load, load_of, IsSound}
+use Rattle.hold_parts.specs.Limits.{is_listed, is_counted}
 use Rattle.hold_partial.specs.Limits.{Allowance, limits_of, limit_covers, limit_load, limits_on, rule_at, added_at, AreLoads, AreAllowed}
 use Rattle.hold_partial.specs.Rules.{limit_broken}
 use Rattle.hold_partial.proofs.FirstLimit.{each-number, find-filter, find-below, find-place, is_over, first-limit}
 use Rattle.hold_partial.proofs.LimitLemmas.{filter-more}
-use Rattle.hold_partial.proofs.SoundNext.{placed-push}
+use Rattle.hold_partial.proofs.RuleLemmas.{placed-push}
 
 -- One container more ----------------------------------------------------------------------------
 
@@ -29,7 +30,7 @@ pub load-next : (is_in : ℕ → Bool) (t : Problem) (prefix : List ℕ) (item :
 load-next is_in t prefix item q within there =
     let mass : Placed → ℕ = λ p. if is_in p.1 then p.0.mass.0 else 0 in
     let more : placed_load is_in (placed t (prefix ++ q ∷ [])) ≡ placed_load is_in (placed t prefix) + (if is_in q then item.mass.0 else 0) =
-    ap (placed_load is_in) (placed-push t prefix item q within there) ∙ sum_by_push mass (placed t prefix) (item, q) in
+    ap (placed_load is_in) (placed-push t prefix item q there) ∙ sum_by_push mass (placed t prefix) (item, q) in
     omega (arith, more)
 
 limit-next : (t : Problem) (prefix : List ℕ) (item : Item) (q j : ℕ) → length prefix < length t.items → slice_get (ordered t.items) (length prefix) ≡ Some item

@@ -11,20 +11,22 @@ use Rattle.std.proofs.lemmas.Option.{slice_get-get_or, slice_get_cases, get_or_f
 use Rattle.std.specs.Prelude.{slice_get}
 use Rattle.std.specs.Int.{int_min, int_max}
 use Rattle.std.specs.List.{filter, list_any, range_with_len, AllByRecursion}
-use Rattle.hold_limits.specs.declared.parts.Item.{Item}
+use Rattle.hold_parts.specs.declared.parts.Item.{Item}
 use Rattle.hold_limits.specs.Layout.{Layout}
 use Rattle.hold_limits.specs.Problem.{Problem}
 use Rattle.hold_limits.specs.Enumeration.{is_accepted}
 use Rattle.hold_limits.specs.Placement.{influence_at, placed_moment}
-use Rattle.hold_partial.specs.declared.ends.Ends.{Ends}
+use Rattle.mass_units.specs.declared.Band.{Band}
 use Rattle.hold_partial.specs.Arrangement.{Ranked, ranked_of, IsByInfluence, at_rank}
-use Rattle.hold_partial.specs.Ends.{HasEnds}
-use Rattle.hold_partial.specs.Levels.{AreRankEnds}
+use Rattle.hold_partial.specs.Bands.{IsBandOf}
+use Rattle.hold_partial.specs.Levels.{IsRankBand}
 use Rattle.hold_partial.specs.Reach.{is_open, open_moments, least, greatest}
-use Rattle.hold_partial.proofs.EndsLemmas.{range-more}
-use Rattle.hold_partial.proofs.SoundNext.{accepted-known}
+use Rattle.hold_partial.proofs.BandLemmas.{range-more}
+use Rattle.hold_limits.proofs.EnumerationLemmas.{is_accepted-Decides}
+use Rattle.hold_limits.proofs.SoundLemmas.{accepted_within}
+use Rattle.desk_base.proofs.PairLemmas.{each-weaker}
 
--- Ends of lists ---------------------------------------------------------------------------------
+-- Least and greatest -------------------------------------------------------------------------------
 
 -- an order of numbers, with the one of two that comes first in it
 record Order (before : ℤ → ℤ → Type 0) (pick : ℤ → ℤ → ℤ) : Type 0 where
@@ -156,14 +158,10 @@ end-is before pick order f q k qs is each =
     (cases_Bool (k == q)) in
     order.same _ _ to (fold-bound before pick order f (f q) (f k) qs each.0 each.1)
 
-each-weaker : {X : Type 0} (P Q : X → Type 0) (weaker : (x : X) → P x → Q x) (xs : List X) → AllByRecursion P xs → AllByRecursion Q xs
-each-weaker P Q weaker [] each = each
-each-weaker P Q weaker (x ∷ xs) each = (weaker x each.0, each-weaker P Q weaker xs each.1)
-
-ends-are : (f : ℕ → ℤ) (first last : ℕ) (qs : List ℕ) → In qs first → In qs last → AllByRecursion (λ q. (f first ≤ℤ f q) × (f q ≤ℤ f last)) qs
+least-and-greatest : (f : ℕ → ℤ) (first last : ℕ) (qs : List ℕ) → In qs first → In qs last → AllByRecursion (λ q. (f first ≤ℤ f q) × (f q ≤ℤ f last)) qs
     → (map f qs ≢ []) × (f first ≡ least (map f qs)) × (f last ≡ greatest (map f qs))
-ends-are f first last [] in_first in_last each = absurd (false≢true in_first)
-ends-are f first last (q ∷ qs) in_first in_last each = (
+least-and-greatest f first last [] in_first in_last each = absurd (false≢true in_first)
+least-and-greatest f first last (q ∷ qs) in_first in_last each = (
   (λ is. cc),
   sym (end-is (λ x y. x ≤ℤ y) int_min least-order f first q qs in_first (each-weaker (λ k. (f first ≤ℤ f k) × (f k ≤ℤ f last)) (λ k. f first ≤ℤ f k) (λ k both. both.0) (q ∷ qs) each)),
   sym (end-is (λ x y. y ≤ℤ x) int_max greatest-order f last q qs in_last (each-weaker (λ k. (f first ≤ℤ f k) × (f k ≤ℤ f last)) (λ k. f k ≤ℤ f last) (λ k both. both.1) (q ∷ qs) each)),
@@ -212,11 +210,11 @@ rank-passes p ranks r passes = ⊎_elim
     (slice_get_cases ranks r).1
 
 pub open-known : (t : Problem) (prefix : List ℕ) (item : Item) (q : ℕ) → is_open t prefix item q ≡ true → q < length t.hold.positions
-open-known t prefix item q passes = (accepted-known t.hold item q (and_parts (is_accepted t.hold (item, q)) _ passes).0).0
+open-known t prefix item q passes = accepted_within t.hold (item, q) ((is_accepted-Decides t.hold (item, q)).0 (and_parts (is_accepted t.hold (item, q)) _ passes).0)
 
-no-ends : (t : Problem) (prefix : List ℕ) (item : Item) (ranks : List Ranked) → IsByInfluence t.hold ranks → (passes : ℕ → Bool) → ((r : ℕ) → passes r ≡ at_rank (is_open t prefix item) ranks r)
+no-band : (t : Problem) (prefix : List ℕ) (item : Item) (ranks : List Ranked) → IsByInfluence t.hold ranks → (passes : ℕ → Bool) → ((r : ℕ) → passes r ≡ at_rank (is_open t prefix item) ranks r)
     → ((r : ℕ) → passes r ≡ false) → open_moments t prefix item ≡ []
-no-ends t prefix item ranks arranged passes same none =
+no-band t prefix item ranks arranged passes same none =
     let p = is_open t prefix item in
     ap (map (λ q. placed_moment t.hold (item, q))) (filter-fails p (range_with_len 0 (length t.hold.positions)) (λ q. ⊎_elim
     (λ (opens : p q ≡ true).
@@ -226,39 +224,39 @@ no-ends t prefix item ranks arranged passes same none =
     (λ (closed : p q ≡ false). closed)
     (cases_Bool (p q))))
 
-some-ends : (t : Problem) (prefix : List ℕ) (item : Item) (ranks : List Ranked) → IsByInfluence t.hold ranks → (passes : ℕ → Bool) → ((r : ℕ) → passes r ≡ at_rank (is_open t prefix item) ranks r)
-    → (e : Ends) → AreRankEnds passes item.mass.0 ranks (Some e) → HasEnds (open_moments t prefix item) (Some e)
-some-ends t prefix item ranks arranged passes same e ends =
+some-band : (t : Problem) (prefix : List ℕ) (item : Item) (ranks : List Ranked) → IsByInfluence t.hold ranks → (passes : ℕ → Bool) → ((r : ℕ) → passes r ≡ at_rank (is_open t prefix item) ranks r)
+    → (e : Band) → IsRankBand passes item.mass.0 ranks (Some e) → IsBandOf (open_moments t prefix item) (Some e)
+some-band t prefix item ranks arranged passes same e band =
     let p = is_open t prefix item in
     let f : ℕ → ℤ = λ q. placed_moment t.hold (item, q) in
     let n : ℕ = length t.hold.positions in
-    let a = rank-passes p ranks ends.0 (sym (same ends.0) ∙ ends.2) in
-    let b = rank-passes p ranks ends.1 (sym (same ends.1) ∙ ends.3) in
-    let a_at : get_or ranks ends.0 a.0 ≡ a.0 = get_or_from_slice_get ranks ends.0 a.0 a.0 a.2 in
-    let b_at : get_or ranks ends.1 a.0 ≡ b.0 = get_or_from_slice_get ranks ends.1 b.0 a.0 b.2 in
-    let a_known : a.0.0 ≡ influence_at t.hold a.0.1 = (rw a_at at (arranged.known ends.0 a.0 a.1)).1 in
-    let b_known : b.0.0 ≡ influence_at t.hold b.0.1 = (rw b_at at (arranged.known ends.1 a.0 b.1)).1 in
+    let a = rank-passes p ranks band.0 (sym (same band.0) ∙ band.2) in
+    let b = rank-passes p ranks band.1 (sym (same band.1) ∙ band.3) in
+    let a_at : get_or ranks band.0 a.0 ≡ a.0 = get_or_from_slice_get ranks band.0 a.0 a.0 a.2 in
+    let b_at : get_or ranks band.1 a.0 ≡ b.0 = get_or_from_slice_get ranks band.1 b.0 a.0 b.2 in
+    let a_known : a.0.0 ≡ influence_at t.hold a.0.1 = (rw a_at at (arranged.known band.0 a.0 a.1)).1 in
+    let b_known : b.0.0 ≡ influence_at t.hold b.0.1 = (rw b_at at (arranged.known band.1 a.0 b.1)).1 in
     let between : (q : ℕ) → p q ≡ true → (f a.0.1 ≤ℤ f q) × (f q ≤ℤ f b.0.1) = λ q opens.
     let rank = rank-of t.hold ranks arranged q (open-known t prefix item q opens) in
     let at : at_rank p ranks rank.0 ≡ true = rw rank.2 opens in
-    let order = ends.4 rank.0 (same rank.0 ∙ at) in
+    let order = band.4 rank.0 (same rank.0 ∙ at) in
     let r_at : get_or ranks rank.0 a.0 ≡ ranked_of t.hold q = get_or_from_slice_get ranks rank.0 (ranked_of t.hold q) a.0 rank.2 in
-    let from = rw (a_at, r_at, a_known) at (arranged.rising ends.0 rank.0 a.0 order.0 rank.1) in
-    let to = rw (r_at, b_at, b_known) at (arranged.rising rank.0 ends.1 a.0 order.1 b.1) in
+    let from = rw (a_at, r_at, a_known) at (arranged.rising band.0 rank.0 a.0 order.0 rank.1) in
+    let to = rw (r_at, b_at, b_known) at (arranged.rising rank.0 band.1 a.0 order.1 b.1) in
     (moment-order item.mass.0 _ _ from, moment-order item.mass.0 _ _ to) in
     let qs = filter p (range_with_len 0 n) in
-    let found = ends-are f a.0.1 b.0.1 qs
+    let found = least-and-greatest f a.0.1 b.0.1 qs
     (in-filter p (range_with_len 0 n) a.0.1 (in-range n a.0.1 (open-known t prefix item a.0.1 a.3)) a.3)
     (in-filter p (range_with_len 0 n) b.0.1 (in-range n b.0.1 (open-known t prefix item b.0.1 b.3)) b.3)
     (each-weaker (λ q. p q ≡ true) (λ q. (f a.0.1 ≤ℤ f q) × (f q ≤ℤ f b.0.1)) between qs (each-passes p (range_with_len 0 n))) in
-    let values = ends.5 a.0 in (
+    let values = band.5 a.0 in (
       found.0,
       rw (a_at, a_known) at values.0 ∙ found.1,
       rw (b_at, b_known) at values.1 ∙ found.2,
     )
 
--- the ends on the ranks of a container's open positions are its least and greatest moments
-pub rank-ends : (t : Problem) (prefix : List ℕ) (item : Item) (ranks : List Ranked) → IsByInfluence t.hold ranks → (passes : ℕ → Bool) → ((r : ℕ) → passes r ≡ at_rank (is_open t prefix item) ranks r)
-    → (ends : Option Ends) → AreRankEnds passes item.mass.0 ranks ends → HasEnds (open_moments t prefix item) ends
-rank-ends t prefix item ranks arranged passes same None none = no-ends t prefix item ranks arranged passes same none
-rank-ends t prefix item ranks arranged passes same (Some e) ends = some-ends t prefix item ranks arranged passes same e ends
+-- the band on the ranks of a container's open positions goes from its least to its greatest moment
+pub rank-band : (t : Problem) (prefix : List ℕ) (item : Item) (ranks : List Ranked) → IsByInfluence t.hold ranks → (passes : ℕ → Bool) → ((r : ℕ) → passes r ≡ at_rank (is_open t prefix item) ranks r)
+    → (band : Option Band) → IsRankBand passes item.mass.0 ranks band → IsBandOf (open_moments t prefix item) band
+rank-band t prefix item ranks arranged passes same None none = no-band t prefix item ranks arranged passes same none
+rank-band t prefix item ranks arranged passes same (Some e) band = some-band t prefix item ranks arranged passes same e band

@@ -9,17 +9,21 @@ use Rattle.std.specs.Prelude.{slice_get}
 use Rattle.std.specs.Int.{int_min, int_max}
 use Rattle.std.specs.List.{filter, list_all, list_any, range_with_len}
 use Rattle.desk_base.specs.Lists.{int_sum_by}
-use Rattle.hold_limits.specs.declared.parts.Item.{Item}
+use Rattle.hold_parts.specs.declared.parts.Item.{Item}
 use Rattle.hold_limits.specs.Problem.{Problem}
 use Rattle.hold_limits.specs.BranchOrder.{ordered}
 use Rattle.hold_limits.specs.Faults.{IsLawful}
 use Rattle.hold_limits.specs.Placement.{placed_moment}
-use Rattle.hold_limits.proofs.BranchOrderLemmas.{length-ordered}
+use Rattle.hold_limits.proofs.BranchOrderLemmas.{length-ordered, rank-is}
 use Rattle.hold_limits.proofs.LawfulBounds.{lawful-bounds}
 use Rattle.hold_limits.proofs.MomentLemmas.{influence_at-bound}
 use Rattle.hold_partial.specs.Reach.{is_open, open_moments, open_positions, has_open_position, least, greatest, remaining, least_index, greatest_index, reach}
 
 -- Containers from a rank on ---------------------------------------------------------------------
+
+-- each rank below their number has a container
+pub next-item : (t : Problem) (rank : ℕ) → rank < length t.items → (item : Item) × (slice_get (ordered t.items) rank ≡ Some item)
+next-item t rank within = let r = rank-is t.items rank within in (r.0.1, r.2)
 
 -- the containers from a rank on begin with the one of that rank
 pub ordered-next : (t : Problem) (rank : ℕ) (item : Item) → rank < length t.items → slice_get (ordered t.items) rank ≡ Some item
@@ -80,9 +84,9 @@ fold-within : (m : ℕ) (pick : ℤ → ℤ → ℤ) (within : (x y : ℤ) → u
 fold-within m pick within f each x [] first = first
 fold-within m pick within f each x (q ∷ qs) first = fold-within m pick within f each (pick x (f q)) qs (within x (f q) first (each q))
 
-ends-within : (m : ℕ) (f : ℕ → ℤ) (each : (q : ℕ) → unsigned_abs (f q) ≤ m) (qs : List ℕ) → (unsigned_abs (least (map f qs)) ≤ m) × (unsigned_abs (greatest (map f qs)) ≤ m)
-ends-within m f each [] = (omega arith, omega arith)
-ends-within m f each (q ∷ qs) = (fold-within m int_min (min-within m) f each (f q) qs (each q), fold-within m int_max (max-within m) f each (f q) qs (each q))
+extremes-within : (m : ℕ) (f : ℕ → ℤ) (each : (q : ℕ) → unsigned_abs (f q) ≤ m) (qs : List ℕ) → (unsigned_abs (least (map f qs)) ≤ m) × (unsigned_abs (greatest (map f qs)) ≤ m)
+extremes-within m f each [] = (omega arith, omega arith)
+extremes-within m f each (q ∷ qs) = (fold-within m int_min (min-within m) f each (f q) qs (each q), fold-within m int_max (max-within m) f each (f q) qs (each q))
 
 pub moment-bound : (mass : ℕ) (influence : ℤ) → mass ≤ 20000 → unsigned_abs influence ≤ 100000 → unsigned_abs (pos mass *ℤ influence) ≤ 2000000000
 moment-bound mass influence light near =
@@ -93,7 +97,7 @@ moment-bound mass influence light near =
 pub moments-within : (t : Problem) (prefix : List ℕ) (item : Item) → IsLawful t → item.mass.0 ≤ 20000
     → (unsigned_abs (least (open_moments t prefix item)) ≤ 2000000000) × (unsigned_abs (greatest (open_moments t prefix item)) ≤ 2000000000)
 moments-within t prefix item lawful light =
-    ends-within 2000000000 (λ q. placed_moment t.hold (item, q))
+    extremes-within 2000000000 (λ q. placed_moment t.hold (item, q))
     (λ q. moment-bound item.mass.0 _ light (influence_at-bound t (lawful-bounds t lawful) q))
     (open_positions t prefix item)
 

@@ -14,23 +14,25 @@ use Rattle.std.specs.Bool.{Decides}
 use Rattle.std.specs.List.{Contains, list_any}
 use Rattle.std.specs.Option.{option_or, option_map_or}
 use Rattle.desk_base.specs.Lists.{first_below}
-use Rattle.hold_limits.specs.declared.lists.Fit.{Fit}
-use Rattle.hold_limits.specs.declared.parts.Position.{Position}
-use Rattle.hold_limits.specs.declared.parts.Combined.{Combined}
-use Rattle.hold_limits.specs.declared.parts.Cumulative.{Cumulative}
-use Rattle.hold_limits.specs.declared.parts.Item.{Item}
+use Rattle.hold_parts.specs.declared.lists.Fit.{Fit}
+use Rattle.hold_parts.specs.declared.parts.Position.{Position}
+use Rattle.hold_parts.specs.declared.parts.Combined.{Combined}
+use Rattle.hold_parts.specs.declared.parts.Cumulative.{Cumulative}
+use Rattle.hold_parts.specs.declared.parts.Item.{Item}
 use Rattle.hold_limits.specs.Layout.{Layout}
 use Rattle.hold_limits.specs.Problem.{Problem}
 use Rattle.hold_limits.specs.BranchOrder.{ordered}
-use Rattle.hold_limits.specs.Placement.{placed, kind_of, Accepts, IsAccepted, Exclude, load_of, is_listed, is_counted, IsSound}
-use Rattle.hold_limits.specs.Enumeration.{accepts, is_accepted, exclude}
+use Rattle.hold_limits.specs.Placement.{placed, IsAccepted, Exclude, load_of, IsSound}
+use Rattle.hold_parts.specs.Limits.{is_listed, is_counted}
+use Rattle.hold_parts.specs.Accepting.{kind_of, Accepts, accepts, has_kind}
+use Rattle.hold_limits.specs.Enumeration.{is_accepted, exclude}
 use Rattle.hold_limits.specs.Faults.{fault_if}
 use Rattle.hold_limits.proofs.BranchOrderLemmas.{length-ordered}
 use Rattle.hold_limits.proofs.EnumerationLemmas.{Any-weaker, is_accepted-Decides, exclude-Decides}
 use Rattle.hold_limits.proofs.FaultLemmas.{option_or-none, fault_if-none, option_map-none, position-none, first_below-none_each}
 use Rattle.hold_limits.proofs.SoundLemmas.{zip-append, IsSound-within, accepted_within}
 use Rattle.hold_partial.specs.declared.rule.RuleBroken.TheVariants as rule
-use Rattle.hold_partial.specs.Rules.{is_used, has_kind, has_kind_at, excluding, breaks_combined, breaks_cumulative, limit_broken, rule_broken}
+use Rattle.hold_partial.specs.Rules.{is_used, has_kind_at, excluding, breaks_combined, breaks_cumulative, limit_broken, rule_broken}
 
 -- Where nothing is found -----------------------------------------------------------------------
 
@@ -87,7 +89,7 @@ limit_broken-none t prefix = (keeps, kept)
         (λ c is. within _ _ is) t.hold.cumulative limits.cumulative) in
         option_or-both _ _ (ap (option_map rule.Combined) combined) (ap (option_map rule.Cumulative) cumulative)
 
-zip-nil : {X Y : Type 0} (xs : List X) → zip {X = Y} xs [] ≡ []
+pub zip-nil : {X Y : Type 0} (xs : List X) → zip {X = Y} xs [] ≡ []
 zip-nil [] = refl
 zip-nil (x ∷ xs) = refl
 

@@ -5,32 +5,27 @@ use Rattle.std.proofs.lemmas.Bool.{cases_Bool}
 use Rattle.std.proofs.lemmas.Int.{ints}
 use Rattle.std.proofs.lemmas.List.{drop_all}
 use Rattle.std.proofs.lemmas.List.Elements.{All-cons, All-weaker}
-use Rattle.std.proofs.lemmas.Option.{get_or_from_slice_get, slice_get_cases, slice_get_within}
+use Rattle.std.proofs.lemmas.Option.{get_or_from_slice_get, slice_get_within}
 use Rattle.std.specs.Prelude.{All, int_lt, MatchOption, IsSomeAnd, slice_get}
 use Rattle.desk_base.specs.Lists.{int_sum_by}
-use Rattle.hold_limits.specs.declared.parts.Item.{Item}
+use Rattle.hold_parts.specs.declared.parts.Item.{Item}
 use Rattle.hold_limits.specs.Problem.{Problem}
 use Rattle.hold_limits.specs.BranchOrder.{ordered}
 use Rattle.hold_limits.specs.Placement.{Placed, placed, placed_moment, Exclude, IsSound, hold_index, IsAdmissible, distance_to, distance}
 use Rattle.hold_limits.specs.Faults.{IsLawful}
 use Rattle.hold_limits.proofs.LawfulBounds.{lawful-bounds}
 use Rattle.hold_limits.proofs.BranchOrderLemmas.{length-ordered}
-use Rattle.hold_limits.proofs.MomentLemmas.{int_sum_by-push}
+use Rattle.desk_base.proofs.SignedSums.{int_sum_by-push}
 use Rattle.hold_limits.proofs.SoundLemmas.{All-front, IsSound-front}
 use Rattle.hold_partial.specs.Reach.{remaining, IsOpen, reach, IsViable, gap, bound}
 use Rattle.hold_partial.specs.Choices.{IsOpenChoice, Allows, IsWithin, LiesIn, IsReach, distance_at, IsNearest}
+use Rattle.hold_partial.proofs.ReachLemmas.{next-item}
 use Rattle.hold_partial.proofs.RuleLemmas.{placed-push, IsSound-last}
 use Rattle.hold_partial.proofs.ChoiceLemmas.{reach-is}
 
 -- One position more -----------------------------------------------------------------------------
 
--- a sound prefix places the container that a shorter one leaves first
-pub next-item : (t : Problem) (prefix : List ℕ) → length prefix < length t.items → (item : Item) × (slice_get (ordered t.items) (length prefix) ≡ Some item)
-next-item t prefix short = ⊎_elim
-    (λ here. (here.0, here.2))
-    (λ past. absurd (omega (arith, past.0, length-ordered t.items)))
-    (slice_get_cases (ordered t.items) (length prefix)).1
-
+-- the containers that a prefix leaves are the next one and those that the longer prefix leaves
 remaining-next : (t : Problem) (prefix : List ℕ) (item : Item) (q : ℕ) → slice_get (ordered t.items) (length prefix) ≡ Some item → remaining t prefix ≡ item ∷ remaining t (prefix ++ q ∷ [])
 remaining-next t prefix item q next =
     let inside : length prefix < length (ordered t.items) = slice_get_within (ordered t.items) (length prefix) item next in
@@ -78,7 +73,7 @@ value_of (Some x) P is = (x, refl, is)
 pub reach-shorter : (t : Problem) (prefix : List ℕ) (q : ℕ) (inner : ℤ × ℤ) → IsSound t (prefix ++ q ∷ []) → reach t (prefix ++ q ∷ []) ≡ Some inner → IsSomeAnd (reach t prefix) (LiesIn inner)
 reach-shorter t prefix q inner sound is =
     let short : length prefix < length t.items = omega (arith, sound.short, length-append prefix (q ∷ [])) in
-    let next = next-item t prefix short in
+    let next = next-item t (length prefix) short in
     let span : IsReach t (prefix ++ q ∷ []) inner = subst (λ o. MatchOption o ((index : ℤ) → Allows t (prefix ++ q ∷ []) index → ⊥) (IsReach t (prefix ++ q ∷ []))) is (reach-is t (prefix ++ q ∷ [])) in
     let low = allows-shorter t prefix next.0 q inner.0 next.1 sound span.least in
     let high = allows-shorter t prefix next.0 q inner.1 next.1 sound span.greatest in

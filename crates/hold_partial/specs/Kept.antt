@@ -10,7 +10,7 @@ use Rattle.hold_partial.specs.declared.tables.Tables.{Tables}
 use Rattle.hold_partial.specs.Arrangement.{IsByInfluence}
 use Rattle.hold_partial.specs.Levels.{IsLevel}
 use Rattle.hold_partial.specs.Limits.{limits_on, AreLoads, AreAllowed}
-use Rattle.hold_partial.specs.Tables.{AreDemands, ArePlaces}
+use Rattle.hold_partial.specs.Tables.{AreDemands, IsPositionTable}
 
 -- the limits that speak of each position
 pub record AreLimitLists (hold : Layout) (lists : List (ArrayVec ℕ)) : Type 0 where
@@ -21,7 +21,7 @@ pub record AreLimitLists (hold : Layout) (lists : List (ArrayVec ℕ)) : Type 0 
 pub record AreTables (t : Problem) (tables : Tables) : Type 0 where
   pub ranks : IsByInfluence t.hold tables.ranks.items
   pub demands : AreDemands t tables.ranks.items tables.demands.items
-  pub places : ArePlaces t.hold tables.ranks.items tables.places.items
+  pub positions : IsPositionTable t.hold tables.ranks.items tables.positions.items
   pub limits : AreLimitLists t.hold tables.limits.items
   pub allowed : AreAllowed t.hold tables.allowed
 

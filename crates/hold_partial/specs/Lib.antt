@@ -3,7 +3,7 @@ pub mod Rules
 pub mod Reach
 pub mod Choices
 pub mod Limits
-pub mod Ends
+pub mod Bands
 pub mod Sets
 pub mod Arrangement
 pub mod Tables

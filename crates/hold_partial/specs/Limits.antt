@@ -2,25 +2,14 @@
 use Rattle.std.specs.Prelude.{◌≡◌, ℕ, ◌-◌, ◌<◌, Bool, false, ◌==◌, nat_lt, if◌then◌else◌, List, ◌++◌, length, map, sum_by, slice_get, slice_index}
 use Rattle.std.specs.List.{filter, range_with_len}
 use Rattle.std.specs.Option.{option_map_or}
-use Rattle.hold_limits.specs.declared.parts.Combined.{Combined}
-use Rattle.hold_limits.specs.declared.parts.Cumulative.{Cumulative}
+use Rattle.hold_parts.specs.declared.parts.Combined.{Combined}
+use Rattle.hold_parts.specs.declared.parts.Cumulative.{Cumulative}
 use Rattle.hold_limits.specs.Layout.{Layout}
 use Rattle.hold_limits.specs.Problem.{Problem}
-use Rattle.hold_limits.specs.Placement.{is_listed, is_counted, load_of}
-use Rattle.hold_partial.specs.declared.limit.Limit.{Limit}
-use Rattle.hold_partial.specs.declared.limit.Limit.TheVariants.{Listed, Counted}
+use Rattle.hold_limits.specs.Placement.{load_of}
+use Rattle.hold_parts.specs.Limits.{is_listed, is_counted}
 use Rattle.hold_partial.specs.declared.rule.RuleBroken.{RuleBroken}
 use Rattle.hold_partial.specs.declared.rule.RuleBroken.TheVariants as rule
-
--- the position is one that the limit speaks of
-abbrev pub is_limited : Limit → ℕ → Bool
-is_limited (Listed limit) q = is_listed limit.now.places q
-is_limited (Counted limit) q = is_counted limit.now q
-
--- the greatest mass that the limit allows, in kilograms
-abbrev pub most_of : Limit → ℕ
-most_of (Listed limit) = limit.now.most.0
-most_of (Counted limit) = limit.now.most.0
 
 -- the limits of a hold in one list, the combined ones first: each as its positions and the mass that it allows
 abbrev pub Allowance : Type 0

@@ -1,16 +1,16 @@
 -- the first rule of a hold that a prefix breaks, or that it would break with one position more
-use Rattle.std.specs.Prelude.{ℕ, Bool, false, not, ◌&&◌, ◌==◌, nat_lt, nat_le, List, [], ◌∷◌, ◌++◌, length, Option, option_map, position, slice_get, bytes_eq}
+use Rattle.std.specs.Prelude.{ℕ, Bool, false, not, ◌&&◌, ◌==◌, nat_lt, nat_le, List, [], ◌∷◌, ◌++◌, length, Option, option_map, position, slice_get}
 use Rattle.std.specs.List.{list_any}
 use Rattle.std.specs.Option.{option_or, option_map_or}
 use Rattle.desk_base.specs.Lists.{first_below}
-use Rattle.hold_limits.specs.declared.lists.Fit.{Fit}
-use Rattle.hold_limits.specs.declared.parts.Position.{Position}
-use Rattle.hold_limits.specs.declared.parts.Combined.{Combined}
-use Rattle.hold_limits.specs.declared.parts.Cumulative.{Cumulative}
-use Rattle.hold_limits.specs.declared.parts.Item.{Item}
+use Rattle.hold_parts.specs.declared.parts.Combined.{Combined}
+use Rattle.hold_parts.specs.declared.parts.Cumulative.{Cumulative}
+use Rattle.hold_parts.specs.declared.parts.Item.{Item}
 use Rattle.hold_limits.specs.Layout.{Layout}
 use Rattle.hold_limits.specs.Problem.{Problem}
-use Rattle.hold_limits.specs.Placement.{kind_of, load_of, is_listed, is_counted}
+use Rattle.hold_limits.specs.Placement.{load_of}
+use Rattle.hold_parts.specs.Limits.{is_listed, is_counted}
+use Rattle.hold_parts.specs.Accepting.{has_kind}
 use Rattle.hold_limits.specs.Enumeration.{is_accepted, exclude}
 use Rattle.hold_limits.specs.Faults.{fault_if}
 use Rattle.hold_partial.specs.declared.rule.RuleBroken.{RuleBroken}
@@ -19,10 +19,6 @@ use Rattle.hold_partial.specs.declared.rule.RuleBroken.TheVariants as rule
 -- a container of the prefix stands on the position
 abbrev pub is_used : List ℕ → ℕ → Bool
 is_used prefix q = list_any (λ used. used == q) prefix
-
--- among the kinds that the position accepts is the container's, whatever its mass
-abbrev pub has_kind : Item → Position → Bool
-has_kind item place = list_any (λ (fit : Fit). bytes_eq fit.kind (kind_of item)) place.fits
 
 abbrev pub has_kind_at : Layout → Item → ℕ → Bool
 has_kind_at hold item q = option_map_or (has_kind item) (slice_get hold.positions q) false

@@ -1,30 +1,30 @@
-//! What the containers of a task ask for, ready to look up.
+//! Where the containers of a task may stand, ready to look up.
 
 ghost use Rattle.std.specs.Prelude.{◌≡◌, ℕ, length};
 ghost use Rattle.hold_limits.specs.Enumeration.{is_accepted};
-ghost use Rattle.hold_limits.specs.Faults.{IsLawful};
+ghost use Rattle.hold_limits.specs.Faults.{IsLawfulHold};
 ghost use Rattle.hold_partial.specs.Arrangement.{IsByInfluence};
 ghost use Rattle.hold_partial.specs.Rules.{has_kind_at};
 ghost use Rattle.hold_partial.specs.Sets.{Stands};
 ghost use Rattle.hold_partial.specs.Tables.{IsDemand, AreDemands};
 
 use crate::arrangement::{Ranked, ranks_of};
-use crate::plain::{position_count, takes_at, takes_kind_at};
 use crate::position_set::PositionSet;
+use crate::reference::accepts_kind_at;
 use arrayvec::ArrayVec;
-use hold_limits::{Item, Task};
+use hold_limits::{Hold, Item, Task};
 use mass_units::Kg;
 
 /// A container, and the positions that it could stand on in an empty hold.
 #[derive(Clone, Copy, Debug)]
 pub struct Demand {
     pub mass: Kg,
-    /// The positions that take its kind, by number.
+    /// The positions that accept its kind, by number.
     pub of_kind: PositionSet,
-    /// The positions that take it, by number.
-    pub taking: PositionSet,
-    /// The positions that take it, by their ranks in the order of influence.
-    pub taking_ranks: PositionSet,
+    /// The positions that accept it, by number.
+    pub accepting: PositionSet,
+    /// The positions that accept it, by their ranks in the order of influence.
+    pub accepting_ranks: PositionSet,
 }
 
 impl Default for Demand {
@@ -32,8 +32,8 @@ impl Default for Demand {
         Demand {
             mass: Kg(0),
             of_kind: PositionSet::empty(),
-            taking: PositionSet::empty(),
-            taking_ranks: PositionSet::empty(),
+            accepting: PositionSet::empty(),
+            accepting_ranks: PositionSet::empty(),
         }
     }
 }
@@ -41,37 +41,37 @@ impl Default for Demand {
 /// The demands of the containers, in branch order.
 pub type Demands = ArrayVec<Demand, 60>;
 
-fn positions_of_kind(task: &Task, item: &Item) -> PositionSet
-    ensures { Stands result (has_kind_at task.now.hold item.now) }
+fn positions_of_kind(hold: &Hold, item: &Item) -> PositionSet
+    ensures { Stands result (has_kind_at hold.now item.now) }
 {
     let mut set = PositionSet::empty();
-    for number in 0..position_count(task) {
-        set = set.with_if(number, takes_kind_at(task.hold(), item, number));
+    for number in 0..hold.position_count() {
+        set = set.with_if(number, accepts_kind_at(hold, item, number));
     }
     set
 }
 
-fn positions_taking(task: &Task, item: &Item) -> PositionSet
-    ensures value { Stands result (λ q. is_accepted task.now.hold (item.now, q)) }
-    ensures lawful { IsLawful task.now }
+fn accepting_positions(hold: &Hold, item: &Item) -> PositionSet
+    ensures value { Stands result (λ q. is_accepted hold.now (item.now, q)) }
+    ensures lawful { IsLawfulHold hold.now }
 {
     let mut set = PositionSet::empty();
-    for number in 0..position_count(task) {
-        set = set.with_if(number, takes_at(task.hold(), item, number));
+    for number in 0..hold.position_count() {
+        set = set.with_if(number, hold.accepts_at(item, number));
     }
     set
 }
 
-fn demand_of(task: &Task, ranks: &[Ranked], item: &Item) -> Demand
-    requires { IsByInfluence task.now.hold ranks.now }
-    ensures { IsDemand task.now.hold ranks.now item.now result }
+fn demand_of(hold: &Hold, ranks: &[Ranked], item: &Item) -> Demand
+    requires { IsByInfluence hold.now ranks.now }
+    ensures { IsDemand hold.now ranks.now item.now result }
 {
-    let taking = positions_taking(task, item);
+    let accepting = accepting_positions(hold, item);
     Demand {
         mass: item.mass,
-        of_kind: positions_of_kind(task, item),
-        taking,
-        taking_ranks: ranks_of(taking, ranks),
+        of_kind: positions_of_kind(hold, item),
+        accepting,
+        accepting_ranks: ranks_of(accepting, ranks),
     }
 }
 
@@ -82,7 +82,7 @@ pub fn demands_of(task: &Task, ranks: &[Ranked]) -> Demands
 {
     let mut demands = Demands::new();
     for rank in 0..task.items().len() {
-        demands.push(demand_of(task, ranks, task.at_rank(rank)));
+        demands.push(demand_of(task.hold(), ranks, task.at_rank(rank)));
     }
     demands
 }

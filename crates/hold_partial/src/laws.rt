@@ -2,7 +2,7 @@
 //! rule themselves.
 
 ghost use Rattle.std.specs.Prelude.{◌≡◌, ◌↔◌, ◌≤◌, ◌≤ℤ◌, ℕ, ℤ, List, [], ◌∷◌, ◌++◌, length, Some, None, IsTrue, IsSomeAnd, MatchOption, slice_get};
-ghost use Rattle.hold_limits.specs.declared.parts.Item.{Item};
+ghost use Rattle.hold_parts.specs.declared.parts.Item.{Item};
 ghost use Rattle.hold_limits.specs.Problem.{Problem};
 ghost use Rattle.hold_limits.specs.BranchOrder.{ordered};
 ghost use Rattle.hold_limits.specs.Faults.{IsLawful};
@@ -13,12 +13,12 @@ ghost use Rattle.hold_partial.specs.Choices.{Allows, IsReach, LiesIn, IsNearest}
 
 /// The definitions say what is meant, for every task: the reach of a prefix goes from the least to the greatest hold
 /// index that open positions allow the remaining containers, and one position more never widens it. So every prefix
-/// of an admissible path is viable, and a search may give up a prefix that is not. The bound is the distance of the
+/// of an admissible path is viable, and a search may skip a prefix that is not. The bound is the distance of the
 /// hold index in reach that is nearest to the ideal. So no admissible path that extends the prefix has a smaller
-/// distance, and a search may pass over a prefix whose bound is too great. A complete prefix reaches its own hold
+/// distance, and a search may skip a prefix whose bound is too great. A complete prefix reaches its own hold
 /// index alone. The first broken rule is none exactly where the prefix is sound.
 ///
-/// The call does nothing. Its contract is what it is for.
+/// The call does nothing: it is there for its contract.
 pub fn reach_laws()
     ensures asked { (t : Problem) (prefix : List ℕ) (item : Item) (q : ℕ)
         → IsTrue (is_open t prefix item q) ↔ IsOpen t prefix item q }

@@ -4,8 +4,8 @@ ghost use Rattle.std.specs.Prelude.{◌≡◌, ◌<◌, ◌≤◌, ◌||◌, ◌
 ghost use Rattle.hold_partial.specs.Sets.{has};
 
 use crate::demand::Demand;
-use crate::place::Place;
 use crate::position_set::PositionSet;
+use crate::position_table::PositionEntry;
 use mass_units::Ticks;
 
 /// What is kept of a prefix.
@@ -13,29 +13,29 @@ use mass_units::Ticks;
 pub struct Level {
     /// The positions that it uses, by number.
     pub used: PositionSet,
-    /// The positions that it takes away from the remaining containers, by their ranks in the order of influence.
-    pub taken_ranks: PositionSet,
+    /// The positions that it blocks for the remaining containers, by their ranks in the order of influence.
+    pub blocked_ranks: PositionSet,
     /// Its hold index.
     pub index: Ticks,
 }
 
 impl Level {
     /// The level of the prefix with one container more, on the position with this number.
-    pub fn with(&self, demand: &Demand, place: &Place, number: u8) -> Level
+    pub fn with(&self, demand: &Demand, entry: &PositionEntry, number: u8) -> Level
         requires number_known { number < 64 }
         requires index_bounded { unsigned_abs self.now.index.0 ≤ 320000000000 }
         requires mass_bounded { demand.now.mass.0 ≤ 20000 }
-        requires influence_bounded { unsigned_abs place.now.influence ≤ 100000 }
+        requires influence_bounded { unsigned_abs entry.now.influence ≤ 100000 }
         ensures used { (q : ℕ) → has result.used q ≡ (has self.now.used q || (q == number)) }
-        ensures taken_ranks { (r : ℕ) → has result.taken_ranks r
-            ≡ (has self.now.taken_ranks r || has place.now.taken_ranks r) }
+        ensures blocked_ranks { (r : ℕ) → has result.blocked_ranks r
+            ≡ (has self.now.blocked_ranks r || has entry.now.blocked_ranks r) }
         ensures index { result.index.0
-            ≡ self.now.index.0 +ℤ (pos demand.now.mass.0 *ℤ place.now.influence) }
+            ≡ self.now.index.0 +ℤ (pos demand.now.mass.0 *ℤ entry.now.influence) }
     {
         Level {
             used: self.used.with(number),
-            taken_ranks: self.taken_ranks.union(place.taken_ranks),
-            index: Ticks(self.index.0 + i64::from(demand.mass.0) * i64::from(place.influence)),
+            blocked_ranks: self.blocked_ranks.union(entry.blocked_ranks),
+            index: Ticks(self.index.0 + i64::from(demand.mass.0) * i64::from(entry.influence)),
         }
     }
 }

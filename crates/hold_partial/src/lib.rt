@@ -5,18 +5,16 @@
 mod arrangement;
 mod bound;
 mod demand;
-mod ends;
 mod laws;
 mod level;
-mod limit;
 mod limit_table;
 mod loads;
+mod moment_band;
 mod partial;
-mod place;
-pub mod plain;
-pub mod plain_reach;
 mod position_set;
-mod prepare;
+mod position_table;
+pub mod reference;
+pub mod reference_reach;
 mod rule;
 mod tables;
 

@@ -1,14 +1,14 @@
 //! The limits of a hold in one list, the combined ones first, ready to look up by position.
 
 ghost use Rattle.std.specs.Prelude.{◌≡◌, ◌<◌, ◌≤◌, ℕ, Some, [], length, slice_get, slice_index, slice_index_or};
-ghost use Rattle.hold_limits.specs.Faults.{IsLawful};
-ghost use Rattle.hold_partial.specs.Limits.{is_limited, most_of, limits_of, limits_on, rule_at, AreLoads, AreAllowed};
+ghost use Rattle.hold_limits.specs.Faults.{IsLawfulHold};
+ghost use Rattle.hold_partial.specs.Limits.{limits_of, limits_on, rule_at, AreLoads, AreAllowed};
+ghost use Rattle.hold_parts.specs.Limits.{is_limited, most_of};
 
-use crate::limit::Limit;
-use crate::plain::{load_loose, position_count};
+use crate::reference::load_loose;
 use crate::rule::RuleBroken;
 use arrayvec::ArrayVec;
-use hold_limits::{Hold, Task};
+use hold_limits::{Hold, Limit, Task};
 
 /// Places in the list of limits.
 pub type LimitList = ArrayVec<u8, 192>;
@@ -16,12 +16,12 @@ pub type LimitList = ArrayVec<u8, 192>;
 /// A mass for each limit, in kilograms.
 pub type LimitMasses = [u32; 192];
 
-fn limit_count(task: &Task) -> u8
-    ensures value { result ≡ length (limits_of task.now.hold) }
+fn limit_count(hold: &Hold) -> u8
+    ensures value { result ≡ length (limits_of hold.now) }
     ensures few { result ≤ 192 }
-    ensures lawful { IsLawful task.now }
+    ensures lawful { IsLawfulHold hold.now }
 {
-    (task.hold().combined().len() + task.hold().cumulative().len()) as u8
+    (hold.combined().len() + hold.cumulative().len()) as u8
 }
 
 fn limit_at(hold: &Hold, place: u8) -> Limit<'_>
@@ -51,12 +51,12 @@ pub fn rule_of(hold: &Hold, place: u8) -> RuleBroken
 }
 
 /// The limits that speak of a position.
-pub fn limits_at(task: &Task, number: u8) -> LimitList
-    ensures { result.items ≡ limits_on task.now.hold number }
+pub fn limits_at(hold: &Hold, number: u8) -> LimitList
+    ensures { result.items ≡ limits_on hold.now number }
 {
     let mut limits = LimitList::new();
-    for place in 0..limit_count(task) {
-        if limit_at(task.hold(), place).covers(number) {
+    for place in 0..limit_count(hold) {
+        if limit_at(hold, place).covers(number) {
             limits.push(place);
         }
     }
@@ -64,12 +64,12 @@ pub fn limits_at(task: &Task, number: u8) -> LimitList
 }
 
 /// The masses that the limits allow.
-pub fn allowed_masses(task: &Task) -> LimitMasses
-    ensures { AreAllowed task.now.hold result }
+pub fn allowed_masses(hold: &Hold) -> LimitMasses
+    ensures { AreAllowed hold.now result }
 {
     let mut masses = [0; 192];
-    for place in 0..limit_count(task) {
-        masses[place as usize] = limit_at(task.hold(), place).most();
+    for place in 0..limit_count(hold) {
+        masses[place as usize] = limit_at(hold, place).most();
     }
     masses
 }
@@ -78,9 +78,10 @@ pub fn allowed_masses(task: &Task) -> LimitMasses
 pub fn loose_masses(task: &Task) -> LimitMasses
     ensures { AreLoads task.now [] result }
 {
+    let hold = task.hold();
     let mut masses = [0; 192];
-    for place in 0..limit_count(task) {
-        masses[place as usize] = load_loose(task, &limit_at(task.hold(), place));
+    for place in 0..limit_count(hold) {
+        masses[place as usize] = load_loose(task, &limit_at(hold, place));
     }
     masses
 }

@@ -2,7 +2,7 @@
 
 ghost use Rattle.std.specs.Prelude.{◌≡◌, ◌↔◌, ◌<◌, ◌≤◌, ◌++◌, ◌∷◌, [], ℕ, unsigned_abs, Some, IfOk, IfErr, IfSome, IfNone, IsOk, length, slice_get, option_map};
 ghost use Rattle.std.specs.Result.{OnOk, OnErr};
-ghost use Rattle.hold_limits.specs.declared.parts.Item.{Item};
+ghost use Rattle.hold_parts.specs.declared.parts.Item.{Item};
 ghost use Rattle.hold_limits.specs.BranchOrder.{ordered};
 ghost use Rattle.hold_limits.specs.Faults.{IsLawful};
 ghost use Rattle.hold_limits.specs.Placement.{IsSound};
@@ -11,17 +11,16 @@ ghost use Rattle.hold_partial.specs.Rules.{limit_broken, rule_broken};
 ghost use Rattle.hold_partial.specs.Reach.{reach, bound, IsViable, HaveCommonTick};
 
 use crate::bound::{bound_of_reach, meets_window, sum_of};
-use crate::ends::ends_on;
 use crate::level::Level;
 use crate::limit_table::{LimitMasses, loose_masses, rule_of};
 use crate::loads::{add_load, first_over, take_load};
-use crate::plain::broken_limit;
+use crate::moment_band::moment_band;
 use crate::position_set::PositionSet;
-use crate::prepare::tables_of;
+use crate::reference::broken_limit;
 use crate::rule::RuleBroken;
 use crate::tables::Tables;
 use hold_limits::{Path, Task, hold_index_of};
-use mass_units::Ticks;
+use mass_units::{Band, Ticks};
 use std::marker::Model;
 
 /// A sound prefix of a task: positions for its first containers of branch order, which break no rule of the hold.
@@ -30,7 +29,7 @@ pub struct Partial<'a> {
     task: &'a Task,
     prefix: Path,
     tables: Tables,
-    /// What is kept of each front of the prefix, by its length. What follows is of no meaning.
+    /// What is kept of each front of the prefix, by its length. Later entries mean nothing.
     levels: [Level; 61],
     /// The loads of the limits under the prefix.
     loads: LimitMasses,
@@ -62,13 +61,13 @@ impl<'a> Partial<'a> {
         }
         let start = Level {
             used: PositionSet::empty(),
-            taken_ranks: PositionSet::empty(),
+            blocked_ranks: PositionSet::empty(),
             index: hold_index_of(task, prefix.as_slice()),
         };
         Ok(Partial {
             task,
             prefix,
-            tables: tables_of(task),
+            tables: Tables::of(task),
             levels: [start; 61],
             loads: loose_masses(task),
         })
@@ -98,7 +97,7 @@ impl<'a> Partial<'a> {
             → result ≡ rule_broken self.now.task self.now.prefix item position }
         ensures sound { IsSound self.now.task self.now.prefix }
     {
-        if position as usize >= self.tables.places.len() {
+        if position as usize >= self.tables.positions.len() {
             return Some(RuleBroken::Unknown);
         }
         let rank = self.prefix.len();
@@ -110,10 +109,10 @@ impl<'a> Partial<'a> {
         if !demand.of_kind.contains(position) {
             return Some(RuleBroken::NoFit);
         }
-        if !demand.taking.contains(position) {
+        if !demand.accepting.contains(position) {
             return Some(RuleBroken::TooHeavy);
         }
-        let excluding = self.tables.places[position as usize].excluding;
+        let excluding = self.tables.positions[position as usize].excluding;
         if let Some(other) = excluding.intersection(used).first() {
             return Some(RuleBroken::Excluded(other));
         }
@@ -131,8 +130,8 @@ impl<'a> Partial<'a> {
         let rank = self.prefix.len();
         let level = self.levels[rank];
         let demand = self.tables.demands[rank];
-        let place = self.tables.places[position as usize];
-        self.levels[rank + 1] = level.with(&demand, &place, position);
+        let entry = self.tables.positions[position as usize];
+        self.levels[rank + 1] = level.with(&demand, &entry, position);
         let limits = self.tables.limits[position as usize].as_slice();
         add_load(&mut self.loads, limits, demand.mass);
         self.prefix.push(position);
@@ -158,7 +157,7 @@ impl<'a> Partial<'a> {
         Ok(())
     }
 
-    /// Takes the last container that was placed off its position.
+    /// Takes the container that was placed last off its position.
     pub fn undo(&mut self)
         requires { 0 < length self.old.prefix }
         ensures { (last : ℕ)
@@ -172,11 +171,11 @@ impl<'a> Partial<'a> {
     }
 
     /// The reach, whose ends are far within their type.
-    fn span(&self) -> Option<(Ticks, Ticks)>
-        ensures value { option_map (λ span. (span.0.0, span.1.0)) result
+    fn span(&self) -> Option<Band>
+        ensures value { option_map (λ band. (band.low.0, band.high.0)) result
             ≡ reach self.now.task self.now.prefix }
-        ensures bounded { IfSome result (λ span. (unsigned_abs span.0.0 ≤ 320000000000)
-            × (unsigned_abs span.1.0 ≤ 320000000000)) }
+        ensures bounded { IfSome result (λ band. (unsigned_abs band.low.0 ≤ 320000000000)
+            × (unsigned_abs band.high.0 ≤ 320000000000)) }
         ensures lawful { IsLawful self.now.task }
     {
         let placed = self.prefix.len();
@@ -185,11 +184,16 @@ impl<'a> Partial<'a> {
         let mut low = level.index;
         let mut high = level.index;
         for demand in &self.tables.demands.as_slice()[placed..] {
-            let ends = ends_on(demand.mass, demand.taking_ranks, level.taken_ranks, ranks)?;
-            low = sum_of(low, ends.least);
-            high = sum_of(high, ends.greatest);
+            let band = moment_band(
+                demand.mass,
+                demand.accepting_ranks,
+                level.blocked_ranks,
+                ranks,
+            )?;
+            low = sum_of(low, band.low);
+            high = sum_of(high, band.high);
         }
-        Some((low, high))
+        Some(Band { low, high })
     }
 
     /// How far the hold index can still reach, in ticks: the hold index so far, with the least and with the
@@ -198,15 +202,15 @@ impl<'a> Partial<'a> {
         ensures { option_map (λ span. (span.0.0, span.1.0)) result
             ≡ reach self.now.task self.now.prefix }
     {
-        self.span()
+        let band = self.span()?;
+        Some((band.low, band.high))
     }
 
     /// How far the take-off indices in reach lie from the ideal band, in ticks. None where there is no reach.
     pub fn bound(&self) -> Option<u64>
         ensures { result ≡ bound self.now.task self.now.prefix }
     {
-        let (low, high) = self.span()?;
-        Some(bound_of_reach(self.task, low, high))
+        Some(bound_of_reach(self.task, self.span()?))
     }
 
     /// The bound of a viable prefix, in ticks. None where the prefix is not viable: its reach and the window have no
@@ -216,10 +220,10 @@ impl<'a> Partial<'a> {
             × (bound self.now.task self.now.prefix ≡ Some b)) }
         ensures none { IfNone result (IsViable self.now.task self.now.prefix → ⊥) }
     {
-        let (low, high) = self.span()?;
-        if !meets_window(self.task, low, high) {
+        let reach = self.span()?;
+        if !meets_window(self.task, reach) {
             return None;
         }
-        Some(bound_of_reach(self.task, low, high))
+        Some(bound_of_reach(self.task, reach))
     }
 }

@@ -1,12 +1,12 @@
 // A hold with a limit of each kind and an excluding pair, and a task with twins and a loose load: the partial
-// placement beside the plain programs, at every prefix.
+// placement beside the reference implementations, at every prefix.
 ghost use Rattle.std.specs.Prelude.{◌≤◌, ◌≡◌, All, IfOk, length};
-ghost use Rattle.hold_limits.specs.declared.lists.Fit.{Fit};
-ghost use Rattle.hold_limits.specs.Spellings.{IsKind};
+ghost use Rattle.hold_parts.specs.declared.lists.Fit.{Fit};
+ghost use Rattle.hold_parts.specs.Spellings.{IsKind};
 
 use crate::partial::Partial;
-use crate::plain::{broken_limit, broken_rule};
-use crate::plain_reach::{bound_of, reach_of};
+use crate::reference::{broken_limit, broken_rule};
+use crate::reference_reach::{bound_of, reach_of};
 use hold_limits::{Combined, Cumulative, Fit, Hold, Item, Loose, Name, Position, Task, UldId};
 use mass_units::{Kg, Ticks};
 use std::alloc::Global;
@@ -14,8 +14,8 @@ use std::test::Fail;
 
 // A position for containers of kind AKE of at most this mass; a bulk position where that is 0.
 fn position(alloc: Global, name: &[u8], influence: i32, most: u32) -> Result<Position, Fail>
-    ensures compartment { IfOk result (λ place. place.compartment ≤ 9) }
-    ensures kinds { IfOk result (λ place. All (λ (fit : Fit). IsKind fit.kind) place.fits) }
+    ensures compartment { IfOk result (λ position. position.compartment ≤ 9) }
+    ensures kinds { IfOk result (λ position. All (λ (fit : Fit). IsKind fit.kind) position.fits) }
 {
     let mut fits = Vec::new(alloc);
     if most > 0 {
@@ -98,13 +98,13 @@ fn agrees(partial: &Partial<'_>) -> bool {
     let task = partial.task();
     let prefix = partial.prefix();
     prefix.len() <= task.items().len()
-        && partial.reach() == reach_of(task, prefix)
+        && partial.reach() == reach_of(task, prefix).map(|band| (band.low, band.high))
         && partial.bound() == bound_of(task, prefix)
         && (partial.viable_bound().is_none() || partial.viable_bound() == partial.bound())
 }
 
 #[test]
-fn a_partial_placement_agrees_with_the_plain_programs(rt: HostRuntime) -> Result<(), Fail> {
+fn a_partial_placement_agrees_with_the_reference(rt: HostRuntime) -> Result<(), Fail> {
     for loose in [0, 100, 160, 951] {
         let task = task(rt.alloc(), loose)?;
         match Partial::new(&task) {

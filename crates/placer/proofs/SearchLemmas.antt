@@ -1,4 +1,4 @@
--- what a search knows of the prefixes that it has passed
+-- what a search knows of the prefixes that it has visited
 use Rattle.std.proofs.Common.{refl, ◌≡◌, ◌≢◌, ◌⊎◌, inl, inr, ⊎_elim, ℕ, ◌+◌, ◌-◌, ◌<◌, ◌≤◌, ◌≤ℤ◌, List, [], ◌∷◌, ◌++◌, length, Option, Some, None, sym, ap, ◌∙◌, subst, arith, ap₂, take, append_assoc, append-nil, length-append, below_more, true, false, Ordering, is_gt, nat_cmp}
 use Rattle.std.proofs.lemmas.Bool.{false≢true}
 use Rattle.std.proofs.Math.Seq.{take-append_seam}
@@ -15,15 +15,15 @@ use Rattle.desk_base.specs.Lists.{Extends}
 use Rattle.hold_limits.specs.Problem.{Problem}
 use Rattle.hold_limits.specs.Placement.{Key, IsAtMost, IsSound, IsAdmissible, IsBest, key, distance}
 use Rattle.hold_limits.proofs.KeyOrder.{IsAtMost-refl, IsAtMost-trans, IsAtMost-total}
-use Rattle.hold_limits.proofs.PairLemmas.{AllPairs-head, AllPairs-tail}
+use Rattle.desk_base.proofs.PairLemmas.{AllPairs-head, AllPairs-tail}
 use Rattle.hold_limits.proofs.SoundLemmas.{IsSound-extends, IsSound-within, Extends-next, Extends-shorter, Extends-whole}
 use Rattle.hold_partial.specs.Placing.{Placing, placing_of}
 use Rattle.hold_partial.specs.Reach.{IsViable, bound}
 use Rattle.hold_partial.proofs.ViableLemmas.{IsViable-front, IsAdmissible-from_viable, bound-most, bound-complete}
 use Rattle.placer.specs.declared.progress.Found.{Found}
 use Rattle.placer.specs.declared.progress.Progress.{Progress}
-use Rattle.placer.specs.declared.plain.Plain.{Plain}
-use Rattle.placer.specs.declared.plain.Plain.TheVariants.{Best, NoneFits, Budget}
+use Rattle.placer.specs.declared.answer.Answer.{Answer}
+use Rattle.placer.specs.declared.answer.Answer.TheVariants.{Best, NoneFits, Budget}
 use Rattle.placer.specs.Search.{HasNoPlacement, MoreViableThan, IfBest, IfNoneFits, IfBudget}
 use Rattle.placer.specs.Steps.{recorded_key, IsFound, IsRecorded, Beats, HasViable}
 
@@ -54,9 +54,9 @@ bound_below t front rest b band is admissible =
     subst (λ o. IsSomeAnd o (λ n. n ≤ distance t (front ++ rest))) is (bound-most t front rest band admissible)
 
 -- where the best so far beats a prefix with its bound, it beats every admissible path that extends the prefix
-pub passed_over-covered : (t : Problem) (front : List ℕ) (b : ℕ) (best : Option Found) → t.ideal_low ≤ℤ t.ideal_high → bound t front ≡ Some b → Beats best (b, front)
+pub skipped-covered : (t : Problem) (front : List ℕ) (b : ℕ) (best : Option Found) → t.ideal_low ≤ℤ t.ideal_high → bound t front ≡ Some b → Beats best (b, front)
     → (path : List ℕ) → IsAdmissible t path → Extends front path → Beats best (key t path)
-passed_over-covered t front b best band is beats path admissible extends =
+skipped-covered t front b best band is beats path admissible extends =
     let below : b ≤ distance t (front ++ extends.0) = bound_below t front extends.0 b band is (subst (IsAdmissible t) extends.1 admissible) in
     let extended : Beats best (key t (front ++ extends.0)) = Beats-at_most best (b, front) (key t (front ++ extends.0)) beats (at_most-extension b (distance t (front ++ extends.0)) front extends.0 below) in
     subst (λ p. Beats best (key t p)) (sym extends.1) extended
@@ -135,7 +135,7 @@ HasViable-join t A B C m n apart first second a b = record {
 
 -- What a search has done ------------------------------------------------------------------------
 
--- the search has passed all prefixes of this kind, and counted some viable ones of them
+-- the search has visited all prefixes of this kind, and counted some viable ones of them
 pub record Explored (t : Problem) (Kind : List ℕ → Type 0) (before now : Progress) : Type 0 where
   pub found : IfSome now.best (IsFound t)
   pub kept : (k : Key) → Beats before.best k → Beats now.best k
@@ -163,8 +163,8 @@ Explored-join t A B C before mid now apart first second either a b = record {
 -- Prefixes below a front ------------------------------------------------------------------------
 
 -- the front itself, or it with one of the first numbers after it
-abbrev pub IsPassed : List ℕ → ℕ → List ℕ → Type 0
-IsPassed front number p = (p ≡ front) ⊎ ((q : ℕ) × (q < number) × Extends (front ++ q ∷ []) p)
+abbrev pub IsVisited : List ℕ → ℕ → List ℕ → Type 0
+IsVisited front number p = (p ≡ front) ⊎ ((q : ℕ) × (q < number) × Extends (front ++ q ∷ []) p)
 
 one_next : (front p : List ℕ) (a b : ℕ) → Extends (front ++ a ∷ []) p → Extends (front ++ b ∷ []) p → a ≡ b
 one_next front p a b first second =
@@ -176,36 +176,36 @@ one_next front p a b first second =
 longer : (front p : List ℕ) (q : ℕ) → Extends (front ++ q ∷ []) p → length front < length p
 longer front p q extends = omega (arith, ap length extends.1, length-append (front ++ q ∷ []) extends.0, length-append front (q ∷ []))
 
-passed-apart : (front : List ℕ) (number : ℕ) (p : List ℕ) → IsPassed front number p → Extends (front ++ number ∷ []) p → ⊥
-passed-apart front number p passed extends = ⊎_elim
+visited-apart : (front : List ℕ) (number : ℕ) (p : List ℕ) → IsVisited front number p → Extends (front ++ number ∷ []) p → ⊥
+visited-apart front number p visited extends = ⊎_elim
     (λ same. absurd (omega (arith, ap length same, longer front p number extends)))
     (λ earlier. absurd (omega (arith, earlier.1, one_next front p earlier.0 number earlier.2 extends)))
-    passed
+    visited
 
-passed-more : (front : List ℕ) (number : ℕ) (p : List ℕ) → IsPassed front number p → IsPassed front (number + 1) p
-passed-more front number p passed = ⊎_elim
+visited-more : (front : List ℕ) (number : ℕ) (p : List ℕ) → IsVisited front number p → IsVisited front (number + 1) p
+visited-more front number p visited = ⊎_elim
     (λ same. inl same)
     (λ earlier. inr (earlier.0, omega (arith, earlier.1), earlier.2))
-    passed
+    visited
 
-passed-cases : (front : List ℕ) (number : ℕ) (p : List ℕ) → IsPassed front (number + 1) p → IsPassed front number p ⊎ Extends (front ++ number ∷ []) p
-passed-cases front number p passed = ⊎_elim
+visited-cases : (front : List ℕ) (number : ℕ) (p : List ℕ) → IsVisited front (number + 1) p → IsVisited front number p ⊎ Extends (front ++ number ∷ []) p
+visited-cases front number p visited = ⊎_elim
     (λ same. inl (inl same))
-    (λ next. below_more (λ q. Extends (front ++ q ∷ []) p → IsPassed front number p ⊎ Extends (front ++ number ∷ []) p) number
+    (λ next. below_more (λ q. Extends (front ++ q ∷ []) p → IsVisited front number p ⊎ Extends (front ++ number ∷ []) p) number
     (λ q below extends. inl (inr (q, below, extends)))
     (λ extends. inr extends)
     next.0 next.1 next.2)
-    passed
+    visited
 
-pub passed-extends : (front : List ℕ) (number : ℕ) (p : List ℕ) → IsPassed front number p → Extends front p
-passed-extends front number p passed = ⊎_elim
+pub visited-extends : (front : List ℕ) (number : ℕ) (p : List ℕ) → IsVisited front number p → Extends front p
+visited-extends front number p visited = ⊎_elim
     (λ same. ([], same ∙ sym (append-nil front)))
     (λ earlier. Extends-shorter front p earlier.0 earlier.2)
-    passed
+    visited
 
 -- a sound prefix that goes on after the front has gone on with the number of a position
-next-passed : (t : Problem) (front p : List ℕ) → IsSound t p → Extends front p → length front < length p → IsPassed front (length t.hold.positions) p
-next-passed t front p sound extends shorter =
+next-visited : (t : Problem) (front p : List ℕ) → IsSound t p → Extends front p → length front < length p → IsVisited front (length t.hold.positions) p
+next-visited t front p sound extends shorter =
     let next = Extends-next front p extends shorter in
     let begins : IsSound t (front ++ next.0 ∷ []) = IsSound-extends t (front ++ next.0 ∷ []) p next.1 sound in
     let within = All-contains (λ q. q < length t.hold.positions) (front ++ next.0 ∷ []) next.0 (IsSound-within t (front ++ next.0 ∷ []) begins) (Contains-push front next.0) in
@@ -256,68 +256,68 @@ found-covered t front found complete is of_task =
 -- before the first number
 pub Explored-first : (t : Problem) (front : List ℕ) (before now : Progress) → IsViable t front → (length front ≡ length t.items → ⊥)
     → IfSome before.best (IsFound t) → now.best ≡ before.best → now.left + 1 ≡ before.left
-    → Explored t (IsPassed front 0) before now
+    → Explored t (IsVisited front 0) before now
 Explored-first t front before now viable incomplete found same left = record {
   found = subst (λ best. IfSome best (IsFound t)) (sym same) found;
   kept = λ k beats. subst (λ best. Beats best k) (sym same) beats;
-  covered = λ path admissible passed. ⊎_elim
+  covered = λ path admissible visited. ⊎_elim
       (λ is. absurd (incomplete (sym (ap length is) ∙ admissible.complete)))
       (λ none. absurd (omega (arith, none.1)))
-      passed;
+      visited;
   left = omega arith;
-  counted = subst (HasViable t (IsPassed front 0)) (omega arith) (HasViable-one t (IsPassed front 0) front viable (inl refl));
+  counted = subst (HasViable t (IsVisited front 0)) (omega arith) (HasViable-one t (IsVisited front 0) front viable (inl refl));
 }
 
--- after one more number, whose prefixes the search has passed
+-- after one more number, whose prefixes the search has visited
 pub Explored-next : (t : Problem) (front : List ℕ) (number : ℕ) (before mid now : Progress)
-    → Explored t (IsPassed front number) before mid → Explored t (Extends (front ++ number ∷ [])) mid now → Explored t (IsPassed front (number + 1)) before now
-Explored-next t front number before mid now passed next = Explored-join t (IsPassed front number) (Extends (front ++ number ∷ [])) (IsPassed front (number + 1)) before mid now
-    (passed-apart front number)
-    (passed-more front number)
+    → Explored t (IsVisited front number) before mid → Explored t (Extends (front ++ number ∷ [])) mid now → Explored t (IsVisited front (number + 1)) before now
+Explored-next t front number before mid now visited next = Explored-join t (IsVisited front number) (Extends (front ++ number ∷ [])) (IsVisited front (number + 1)) before mid now
+    (visited-apart front number)
+    (visited-more front number)
     (λ p extends. inr (number, omega arith, extends))
-    (passed-cases front number)
-    passed next
+    (visited-cases front number)
+    visited next
 
 -- after one more number, with which the front is not sound
 pub Explored-refused : (t : Problem) (front : List ℕ) (number : ℕ) (before now : Progress)
-    → (IsSound t (front ++ number ∷ []) → ⊥) → Explored t (IsPassed front number) before now → Explored t (IsPassed front (number + 1)) before now
-Explored-refused t front number before now unsound passed = record {
-  found = passed.found;
-  kept = passed.kept;
+    → (IsSound t (front ++ number ∷ []) → ⊥) → Explored t (IsVisited front number) before now → Explored t (IsVisited front (number + 1)) before now
+Explored-refused t front number before now unsound visited = record {
+  found = visited.found;
+  kept = visited.kept;
   covered = λ path admissible kind. ⊎_elim
-      (λ earlier. passed.covered path admissible earlier)
+      (λ earlier. visited.covered path admissible earlier)
       (λ extends. absurd (unsound (IsSound-extends t (front ++ number ∷ []) path extends admissible.sound)))
-      (passed-cases front number path kind);
-  left = passed.left;
-  counted = HasViable-weaker t (IsPassed front number) (IsPassed front (number + 1)) (before.left - now.left) (passed-more front number) passed.counted;
+      (visited-cases front number path kind);
+  left = visited.left;
+  counted = HasViable-weaker t (IsVisited front number) (IsVisited front (number + 1)) (before.left - now.left) (visited-more front number) visited.counted;
 }
 
 -- after the last number
 pub Explored-last : (t : Problem) (front : List ℕ) (number : ℕ) (before now : Progress) → length t.hold.positions ≤ number → (length front ≡ length t.items → ⊥) → IsSound t front
-    → Explored t (IsPassed front number) before now → Explored t (Extends front) before now
-Explored-last t front number before now all incomplete sound passed = record {
-  found = passed.found;
-  kept = passed.kept;
+    → Explored t (IsVisited front number) before now → Explored t (Extends front) before now
+Explored-last t front number before now all incomplete sound visited = record {
+  found = visited.found;
+  kept = visited.kept;
   covered = λ path admissible extends.
       let short : length front < length path = omega (arith, incomplete, sound.short, admissible.complete) in
-      passed.covered path admissible (passed-upto (next-passed t front path admissible.sound extends short));
-  left = passed.left;
-  counted = HasViable-weaker t (IsPassed front number) (Extends front) (before.left - now.left) (passed-extends front number) passed.counted;
+      visited.covered path admissible (visited-upto (next-visited t front path admissible.sound extends short));
+  left = visited.left;
+  counted = HasViable-weaker t (IsVisited front number) (Extends front) (before.left - now.left) (visited-extends front number) visited.counted;
 }
   where
-    passed-upto : {p : List ℕ} → IsPassed front (length t.hold.positions) p → IsPassed front number p
-    passed-upto passed = ⊎_elim
+    visited-upto : {p : List ℕ} → IsVisited front (length t.hold.positions) p → IsVisited front number p
+    visited-upto visited = ⊎_elim
         (λ same. inl same)
         (λ earlier. inr (earlier.0, omega (arith, earlier.1, all), earlier.2))
-        passed
+        visited
 
 -- where the budget is spent at a number
 pub HasViable-spent : (t : Problem) (front : List ℕ) (number : ℕ) (before mid : Progress)
-    → Explored t (IsPassed front number) before mid → HasViable t (Extends (front ++ number ∷ [])) (mid.left + 1) → HasViable t (Extends front) (before.left + 1)
-HasViable-spent t front number before mid passed spent =
-    let both = HasViable-join t (IsPassed front number) (Extends (front ++ number ∷ [])) (Extends front) (before.left - mid.left) (mid.left + 1)
-    (passed-apart front number) (passed-extends front number) (λ p extends. Extends-shorter front p number extends) passed.counted spent in
-    let sum : (before.left - mid.left) + (mid.left + 1) ≡ before.left + 1 = omega (arith, passed.left) in
+    → Explored t (IsVisited front number) before mid → HasViable t (Extends (front ++ number ∷ [])) (mid.left + 1) → HasViable t (Extends front) (before.left + 1)
+HasViable-spent t front number before mid visited spent =
+    let both = HasViable-join t (IsVisited front number) (Extends (front ++ number ∷ [])) (Extends front) (before.left - mid.left) (mid.left + 1)
+    (visited-apart front number) (visited-extends front number) (λ p extends. Extends-shorter front p number extends) visited.counted spent in
+    let sum : (before.left - mid.left) + (mid.left + 1) ≡ before.left + 1 = omega (arith, visited.left) in
     subst (HasViable t (Extends front)) sum both
 
 -- The answer ------------------------------------------------------------------------------------
@@ -334,13 +334,13 @@ MoreViableThan-spent t budget has = record {
 pub HasNoPlacement-unsound : (t : Problem) → (IsSound t [] → ⊥) → HasNoPlacement t
 HasNoPlacement-unsound t unsound path admissible = unsound (IsSound-extends t [] path (path, refl) admissible.sound)
 
--- what the search says once it has passed everything
-pub record Answers (t : Problem) (result : Plain) : Type 0 where
+-- what the search says once it has visited everything
+pub record Answers (t : Problem) (result : Answer) : Type 0 where
   pub best : IfBest result (IsBest t)
   pub none : IfNoneFits result (HasNoPlacement t)
   pub spent : IfBudget result (λ n. ⊥)
 
-pub Answers-recorded : (t : Problem) (best : Option Found) (result : Plain) → IfSome best (IsFound t)
+pub Answers-recorded : (t : Problem) (best : Option Found) (result : Answer) → IfSome best (IsFound t)
     → ((path : List ℕ) → IsAdmissible t path → Extends [] path → Beats best (key t path)) → IsRecorded best result → Answers t result
 Answers-recorded t None (Best path) found covered recorded = absurd recorded
 Answers-recorded t (Some one) (Best path) found covered recorded =
@@ -354,7 +354,7 @@ Answers-recorded t (Some one) NoneFits found covered recorded = absurd (cc)
 Answers-recorded t best (Budget n) found covered recorded = absurd recorded
 
 -- where it began with the empty prefix
-pub Answers-from_empty : (t : Problem) (partial : Placing) (best : Option Found) (result : Plain) → partial ≡ placing_of t [] → IfSome best (IsFound partial.task)
+pub Answers-from_empty : (t : Problem) (partial : Placing) (best : Option Found) (result : Answer) → partial ≡ placing_of t [] → IfSome best (IsFound partial.task)
     → ((path : List ℕ) → IsAdmissible partial.task path → Extends partial.prefix path → Beats best (key partial.task path)) → IsRecorded best result → Answers t result
 Answers-from_empty t partial best result empty found covered recorded = Answers-recorded t best result
     (subst (λ (p : Placing). IfSome best (IsFound p.task)) empty found)

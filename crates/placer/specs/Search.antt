@@ -3,8 +3,8 @@ use Rattle.std.specs.Prelude.{◌≢◌, ℕ, ◌<◌, List, length, All, AllPai
 use Rattle.hold_limits.specs.Problem.{Problem}
 use Rattle.hold_limits.specs.Placement.{IsAdmissible}
 use Rattle.hold_partial.specs.Reach.{IsViable}
-use Rattle.placer.specs.declared.plain.Plain.{Plain}
-use Rattle.placer.specs.declared.plain.Plain.TheVariants.{Best, NoneFits, Budget}
+use Rattle.placer.specs.declared.answer.Answer.{Answer}
+use Rattle.placer.specs.declared.answer.Answer.TheVariants.{Best, NoneFits, Budget}
 
 -- no path is admissible
 abbrev pub HasNoPlacement : Problem → Type 0
@@ -18,19 +18,19 @@ pub record MoreViableThan (t : Problem) (n : ℕ) : Type 0 where
   pub more : n < length prefixes
 
 -- P holds of the path, if the answer has one
-abbrev pub IfBest : Plain → (List ℕ → Type 0) → Type 0
+abbrev pub IfBest : Answer → (List ℕ → Type 0) → Type 0
 IfBest (Best path) P = P path.items
 IfBest NoneFits P = Unit {0}
 IfBest (Budget n) P = Unit {0}
 
 -- P holds, if the answer is that nothing fits
-abbrev pub IfNoneFits : Plain → Type 0 → Type 0
+abbrev pub IfNoneFits : Answer → Type 0 → Type 0
 IfNoneFits (Best path) P = Unit {0}
 IfNoneFits NoneFits P = P
 IfNoneFits (Budget n) P = Unit {0}
 
 -- P holds of the number, if the answer is that the budget is spent
-abbrev pub IfBudget : Plain → (ℕ → Type 0) → Type 0
+abbrev pub IfBudget : Answer → (ℕ → Type 0) → Type 0
 IfBudget (Best path) P = Unit {0}
 IfBudget NoneFits P = Unit {0}
 IfBudget (Budget n) P = P n

@@ -4,8 +4,8 @@ use Rattle.hold_limits.specs.Problem.{Problem}
 use Rattle.hold_limits.specs.Placement.{Key, IsAtMost, IsAdmissible, distance}
 use Rattle.hold_partial.specs.Reach.{IsViable}
 use Rattle.placer.specs.declared.progress.Found.{Found}
-use Rattle.placer.specs.declared.plain.Plain.{Plain}
-use Rattle.placer.specs.declared.plain.Plain.TheVariants.{Best, NoneFits, Budget}
+use Rattle.placer.specs.declared.answer.Answer.{Answer}
+use Rattle.placer.specs.declared.answer.Answer.TheVariants.{Best, NoneFits, Budget}
 
 -- the key of a path that was found, by the distance kept with it
 abbrev pub recorded_key : Found → Key
@@ -21,7 +21,7 @@ abbrev pub Beats : Option Found → Key → Type 0
 Beats best k = IsSomeAnd best (λ found. IsAtMost (recorded_key found) k)
 
 -- the answer is the path that was found, if there is one
-abbrev pub IsRecorded : Option Found → Plain → Type 0
+abbrev pub IsRecorded : Option Found → Answer → Type 0
 IsRecorded best (Best path) = IsSomeAnd best (λ found. found.path.items ≡ path.items)
 IsRecorded best NoneFits = best ≡ None
 IsRecorded best (Budget n) = ⊥

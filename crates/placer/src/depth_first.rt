@@ -1,9 +1,9 @@
 //! The search for the best path: depth first through the viable prefixes of a task in path order, each of which
 //! counts against a budget.
 //!
-//! Every prefix of an admissible path is viable, so the search leaves a prefix as soon as it is not. No admissible
+//! Every prefix of an admissible path is viable, so the search abandons a prefix as soon as it is not. No admissible
 //! path that extends a prefix has a smaller distance than its bound, and none comes before it in path order. So the
-//! search also passes over a prefix whose bound and numbers are together no better than the best path so far.
+//! search also skips a prefix whose bound and numbers are together no better than the best path so far.
 
 ghost use Rattle.std.specs.Prelude.{◌≡◌, ◌+◌, ◌-◌, ◌≤◌, false, IsOk, IsTrue, IfOk, IfSome, List, ℕ, length};
 ghost use Rattle.desk_base.specs.Lists.{Extends};
@@ -11,22 +11,15 @@ ghost use Rattle.hold_limits.specs.Placement.{Key, IsAdmissible, IsBest, key};
 ghost use Rattle.placer.specs.Search.{HasNoPlacement, MoreViableThan, IfBest, IfNoneFits, IfBudget};
 ghost use Rattle.placer.specs.Steps.{IsFound, Beats, HasViable};
 
-use crate::plain::Plain;
+use crate::answer::Answer;
 use crate::progress::{Found, Progress, answer_of};
 use desk_base::NoMemory;
 use hold_limits::Task;
 use hold_partial::Partial;
 use std::alloc::Global;
 
-/// How many positions the hold has. They are numbered from 0.
-fn position_count(task: &Task) -> u8
-    ensures { result ≡ length task.now.hold.positions }
-{
-    task.hold().positions().len() as u8
-}
-
-/// Passes all viable prefixes that begin with this one, and keeps the best path. The answer is whether the budget
-/// allowed that.
+/// Visits all viable prefixes that begin with this one, and keeps the best path. True if the budget was enough for
+/// that.
 fn explore(partial: &mut Partial<'_>, progress: &mut Progress) -> bool
     requires found { IfSome progress.old.best (IsFound partial.old.task) }
     ensures same { partial.new ≡ partial.old }
@@ -45,7 +38,7 @@ fn explore(partial: &mut Partial<'_>, progress: &mut Progress) -> bool
     let Some(bound) = partial.viable_bound() else {
         return true;
     };
-    if progress.passes_over(bound, partial.prefix()) {
+    if progress.skips(bound, partial.prefix()) {
         return true;
     }
     if progress.left == 0 {
@@ -56,7 +49,8 @@ fn explore(partial: &mut Partial<'_>, progress: &mut Progress) -> bool
         progress.best = Some(Found::new(partial.prefix(), bound));
         return true;
     }
-    for number in 0..position_count(task) {
+    let hold = task.hold();
+    for number in 0..hold.position_count() {
         if partial.try_place(number).is_ok() {
             let within = explore(partial, progress);
             partial.undo();
@@ -69,24 +63,24 @@ fn explore(partial: &mut Partial<'_>, progress: &mut Progress) -> bool
 }
 
 /// The best path of the task. The search looks at viable prefixes, of which the empty one counts as one, and gives
-/// up where the next one would be more than the budget. It takes no memory: the allocator is there for a search that
+/// up where the next one would exceed the budget. It allocates nothing: the allocator is there for a search that
 /// keeps prefixes for later.
-pub fn search(_alloc: Global, task: &Task, budget: u32) -> Result<Plain, NoMemory>
-    ensures best { IfOk result (λ plain. IfBest plain (IsBest task.now)) }
-    ensures none { IfOk result (λ plain. IfNoneFits plain (HasNoPlacement task.now)) }
-    ensures budget { IfOk result (λ plain. IfBudget plain (λ n. n ≡ budget)) }
-    ensures over { IfOk result (λ plain. IfBudget plain (λ n. MoreViableThan task.now n)) }
+pub fn search(_alloc: Global, task: &Task, budget: u32) -> Result<Answer, NoMemory>
+    ensures best { IfOk result (λ answer. IfBest answer (IsBest task.now)) }
+    ensures none { IfOk result (λ answer. IfNoneFits answer (HasNoPlacement task.now)) }
+    ensures budget { IfOk result (λ answer. IfBudget answer (λ n. n ≡ budget)) }
+    ensures over { IfOk result (λ answer. IfBudget answer (λ n. MoreViableThan task.now n)) }
     ensures takes_no_memory { IsOk result }
 {
     let Ok(mut partial) = Partial::new(task) else {
-        return Ok(Plain::NoneFits);
+        return Ok(Answer::NoneFits);
     };
     let mut progress = Progress {
         best: None,
         left: budget,
     };
     if !explore(&mut partial, &mut progress) {
-        return Ok(Plain::Budget(budget));
+        return Ok(Answer::Budget(budget));
     }
     Ok(answer_of(progress.best))
 }

@@ -1,9 +1,9 @@
 //! The search for the best placement of a task.
 #![tactic(auto)]
 
+mod answer;
 mod depth_first;
-mod plain;
 mod progress;
 
+pub use answer::Answer;
 pub use depth_first::search;
-pub use plain::Plain;

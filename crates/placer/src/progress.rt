@@ -1,10 +1,10 @@
-//! How far a search is: the best path so far, and how many more prefixes it may look at.
+//! How far a search has got: the best path so far, and how many more prefixes it may look at.
 
 ghost use Rattle.hold_limits.specs.Placement.{IsAtMost};
 ghost use Rattle.std.specs.Prelude.{◌≡◌, ◌↔◌, ◌≤◌, IsTrue, length};
 ghost use Rattle.placer.specs.Steps.{Beats, IsRecorded, recorded_key};
 
-use crate::plain::Plain;
+use crate::answer::Answer;
 use hold_limits::Path;
 use std::cmp::Ordering;
 
@@ -59,7 +59,7 @@ impl Found {
 
 impl Progress {
     /// Whether nothing better than the best path so far begins with a prefix with this bound.
-    pub fn passes_over(&self, bound: u64, prefix: &[u8]) -> bool
+    pub fn skips(&self, bound: u64, prefix: &[u8]) -> bool
         ensures { IsTrue result ↔ Beats self.now.best (bound, prefix.now) }
     {
         match &self.best {
@@ -70,11 +70,11 @@ impl Progress {
 }
 
 /// The answer of a search that has looked at everything.
-pub fn answer_of(best: Option<Found>) -> Plain
+pub fn answer_of(best: Option<Found>) -> Answer
     ensures { IsRecorded best result }
 {
     match best {
-        Some(found) => Plain::Best(found.path),
-        None => Plain::NoneFits,
+        Some(found) => Answer::Best(found.path),
+        None => Answer::NoneFits,
     }
 }

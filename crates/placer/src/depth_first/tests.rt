@@ -1,7 +1,7 @@
 // The search beside a trial of every list of position numbers, over small tasks.
 ghost use Rattle.std.specs.Prelude.{◌≤◌, All, IfOk};
-ghost use Rattle.hold_limits.specs.declared.lists.Fit.{Fit};
-ghost use Rattle.hold_limits.specs.Spellings.{IsKind};
+ghost use Rattle.hold_parts.specs.declared.lists.Fit.{Fit};
+ghost use Rattle.hold_parts.specs.Spellings.{IsKind};
 
 use super::*;
 use hold_limits::{
@@ -13,8 +13,8 @@ use std::test::Fail;
 
 // A position for containers of kind AKE of at most 1,500 kg, or a bulk position.
 fn position(alloc: Global, name: &[u8], influence: i32, bulk: bool) -> Result<Position, Fail>
-    ensures compartment { IfOk result (λ place. place.compartment ≤ 9) }
-    ensures kinds { IfOk result (λ place. All (λ (fit : Fit). IsKind fit.kind) place.fits) }
+    ensures compartment { IfOk result (λ position. position.compartment ≤ 9) }
+    ensures kinds { IfOk result (λ position. All (λ (fit : Fit). IsKind fit.kind) position.fits) }
 {
     let mut fits = Vec::new(alloc);
     if !bulk {
@@ -152,10 +152,10 @@ fn best_by_trial(alloc: Global, task: &Task) -> Result<Option<Vec<u8>>, Fail> {
     Ok(keys.into_iter().next().map(|key| key.1))
 }
 
-fn best_path(plain: &Plain) -> Option<&[u8]> {
-    match plain {
-        Plain::Best(path) => Some(path.as_slice()),
-        Plain::NoneFits | Plain::Budget(_) => None,
+fn best_path(answer: &Answer) -> Option<&[u8]> {
+    match answer {
+        Answer::Best(path) => Some(path.as_slice()),
+        Answer::NoneFits | Answer::Budget(_) => None,
     }
 }
 
@@ -248,9 +248,9 @@ fn the_search_finds_what_a_trial_finds(rt: HostRuntime) -> Result<(), Fail> {
     for case in SMALL_TASKS {
         let task = task(rt.alloc(), &case)?;
         let best = best_by_trial(rt.alloc(), &task)?;
-        let plain = search(rt.alloc(), &task, 50_000)?;
-        assert_eq!(rt; best_path(&plain), best.as_deref(), "at {}", case.name);
-        assert!(rt; !matches!(plain, Plain::Budget(_)), "at {}", case.name);
+        let answer = search(rt.alloc(), &task, 50_000)?;
+        assert_eq!(rt; best_path(&answer), best.as_deref(), "at {}", case.name);
+        assert!(rt; !matches!(answer, Answer::Budget(_)), "at {}", case.name);
     }
     Ok(())
 }
@@ -258,8 +258,8 @@ fn the_search_finds_what_a_trial_finds(rt: HostRuntime) -> Result<(), Fail> {
 #[test]
 fn the_worked_task_needs_a_budget_of_8(rt: HostRuntime) -> Result<(), Fail> {
     let task = task(rt.alloc(), &WORKED)?;
-    let plain = search(rt.alloc(), &task, 8)?;
-    assert_eq!(rt; best_path(&plain), Some(&[1u8, 2][..]));
-    assert!(rt; matches!(search(rt.alloc(), &task, 7)?, Plain::Budget(7)));
+    let answer = search(rt.alloc(), &task, 8)?;
+    assert_eq!(rt; best_path(&answer), Some(&[1u8, 2][..]));
+    assert!(rt; matches!(search(rt.alloc(), &task, 7)?, Answer::Budget(7)));
     Ok(())
 }

@@ -1,6 +1,6 @@
 use Rattle.std.proofs.Common.{◌≡◌, ℕ, ◌<◌, length, slice_index_or, Some}
 use Rattle.std.specs.Prelude.{slice_get}
-use Rattle.hold_limits.specs.declared.parts.Item.{Item}
+use Rattle.hold_parts.specs.declared.parts.Item.{Item}
 use Rattle.hold_limits.specs.BranchOrder.{ordered}
 use Rattle.hold_partial.specs.declared.demand.Demand.{Demand}
 use Rattle.hold_partial.specs.Tables.{IsDemand}

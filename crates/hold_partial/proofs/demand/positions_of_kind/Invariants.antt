@@ -4,4 +4,4 @@ use Rattle.hold_partial.specs.Sets.{Stands}
 use Rattle.hold_partial.proofs.demand.positions_of_kind.Given as goal
 
 abbrev pub invariant-loop-number : goal.invariant-loop-number
-invariant-loop-number l = Stands l.set (λ q. nat_lt q l.number && has_kind_at l.task.hold l.item q)
+invariant-loop-number l = Stands l.set (λ q. nat_lt q l.number && has_kind_at l.hold l.item q)

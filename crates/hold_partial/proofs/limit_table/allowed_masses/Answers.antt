@@ -1,17 +1,15 @@
 use Rattle.std.proofs.Common.{ap, sym, ◌∙◌, arith}
 use Rattle.std.proofs.Math.ListN.{length-set}
 use Rattle.std.specs.Option.{option_map_or}
-use Rattle.std.specs.Prelude.{slice_get}
-use Rattle.hold_limits.specs.Layout.{Layout}
-use Rattle.hold_partial.specs.Limits.{Allowance, limits_of, limit_most}
+use Rattle.hold_partial.specs.Limits.{Allowance, limit_most}
 use Rattle.hold_partial.proofs.LimitLemmas.{table-set}
 use Rattle.hold_partial.proofs.limit_table.allowed_masses.Goals as goal
 
 pub loop-place-preserved : goal.loop-place-preserved
 loop-place-preserved c =
-    let hold = c.args.task.now.hold in
+    let hold = c.args.hold.now in
     let place = c.loop-place.place in
-    let there = ap (λ (h : Layout). slice_get (limits_of h) place) (sym c.hold.ensures.value) ∙ c.limit_at.ensures in
+    let there = c.limit_at.ensures in
     record {
       long = length-set c.loop-place.masses place _ ∙ c.loop-place.invariant.long;
       right = table-set (limit_most hold) c.loop-place.masses place c.most.result (omega arith) c.loop-place.invariant.right

@@ -5,5 +5,5 @@ use Rattle.hold_partial.proofs.limit_table.allowed_masses.Given as goal
 abbrev pub invariant-loop-place : goal.invariant-loop-place
 invariant-loop-place l = record {
   long : length l.masses ≡ 192;
-  right : (j : ℕ) → j < l.place → slice_index l.masses j ≡ limit_most l.task.hold j;
+  right : (j : ℕ) → j < l.place → slice_index l.masses j ≡ limit_most l.hold j;
 }

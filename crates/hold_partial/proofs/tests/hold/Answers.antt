@@ -1,19 +1,19 @@
 use Rattle.std.proofs.Common.{◌≡◌, ◌≤◌, List, [], ◌∷◌, lit≤}
 use Rattle.std.proofs.lemmas.List.Elements.{All-from_recursion, All-same}
 use Rattle.std.specs.Prelude.{All}
-use Rattle.hold_limits.specs.declared.lists.Fit.{Fit}
-use Rattle.hold_limits.specs.declared.parts.Combined.{Combined}
-use Rattle.hold_limits.specs.declared.parts.Cumulative.{Cumulative}
-use Rattle.hold_limits.specs.declared.parts.Position.{Position}
-use Rattle.hold_limits.specs.Spellings.{IsKind}
+use Rattle.hold_parts.specs.declared.lists.Fit.{Fit}
+use Rattle.hold_parts.specs.declared.parts.Combined.{Combined}
+use Rattle.hold_parts.specs.declared.parts.Cumulative.{Cumulative}
+use Rattle.hold_parts.specs.declared.parts.Position.{Position}
+use Rattle.hold_parts.specs.Spellings.{IsKind}
 use Rattle.hold_partial.proofs.tests.hold.Goals as goal
 
--- what the reader of a hold makes sure of at each position
+-- what the reader of a hold ensures of each position
 HasDigit : Position → Type 0
-HasDigit place = place.compartment ≤ 9
+HasDigit position = position.compartment ≤ 9
 
 HasKinds : Position → Type 0
-HasKinds place = All (λ (fit : Fit). IsKind fit.kind) place.fits
+HasKinds position = All (λ (fit : Fit). IsKind fit.kind) position.fits
 
 each-of_one : {X : Type 0} (P : X → Type 0) (xs : List X) (x : X) → xs ≡ x ∷ [] → P x → All P xs
 each-of_one P xs x is one = All-same P xs (x ∷ []) is (All-from_recursion P (x ∷ []) (one, tt))

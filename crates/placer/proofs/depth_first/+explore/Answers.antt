@@ -2,14 +2,15 @@ use Rattle.std.proofs.Common.{◌≡◌, ◌+◌, ◌-◌, ◌≤◌, List, ◌�
 use Rattle.std.proofs.lemmas.Bool.{false≢true}
 use Rattle.desk_base.specs.Lists.{Extends}
 use Rattle.std.specs.Prelude.{IfSome}
-use Rattle.hold_limits.specs.declared.parts.Item.{Item}
+use Rattle.hold_parts.specs.declared.parts.Item.{Item}
+use Rattle.hold_limits.specs.Layout.{Layout}
 use Rattle.hold_limits.specs.Problem.{Problem}
 use Rattle.hold_limits.specs.Placement.{IsSound}
 use Rattle.hold_partial.specs.Placing.{Placing}
 use Rattle.hold_partial.specs.Reach.{IsViable, bound}
 use Rattle.hold_partial.proofs.ViableLemmas.{band-in_order}
 use Rattle.placer.specs.Steps.{Beats, HasViable, IsFound, recorded_key}
-use Rattle.placer.proofs.SearchLemmas.{Explored, IsPassed, passed_over-covered, not_viable-covered, IsFound-complete, Beats-better, found-covered, HasViable-one, HasViable-spent, Explored-first, Explored-next, Explored-refused, Explored-last, placed-longer, from_err, undone}
+use Rattle.placer.proofs.SearchLemmas.{Explored, IsVisited, skipped-covered, not_viable-covered, IsFound-complete, Beats-better, found-covered, HasViable-one, HasViable-spent, Explored-first, Explored-next, Explored-refused, Explored-last, placed-longer, from_err, undone}
 use Rattle.placer.proofs.depth_first.+explore.Goals as goal
 use Rattle.placer.proofs.depth_first.+explore.Goals.{then-is_ok+else-not-within, else-is_ok}
 
@@ -20,13 +21,13 @@ item_count is same = ap length is ∙ ap (λ (p : Problem). length p.items) same
 pub returns-in_default-clause-covered : goal.returns-in_default-clause-covered
 returns-in_default-clause-covered t c = λ _. not_viable-covered c.args.partial.now.task c.args.partial.now.prefix c.args.progress.now.best c.in_default.ensures.none
 
-pub returns-then-passes_over-clause-covered : goal.returns-then-passes_over-clause-covered
-returns-then-passes_over-clause-covered t c =
+pub returns-then-skips-clause-covered : goal.returns-then-skips-clause-covered
+returns-then-skips-clause-covered t c =
     let task = c.args.partial.now.task in
     let best = c.args.progress.now.best in
     let b = c.in-Some.bound in
-    let beats : Beats best (b, c.args.partial.now.prefix) = subst (λ p. Beats best (b, p)) c.prefix.ensures.value (c.passes_over.ensures.0 c.if-passes_over.true) in
-    λ _. passed_over-covered task c.args.partial.now.prefix b best (band-in_order task c.task-task.ensures.lawful) c.in-Some.ensures.found.1 beats
+    let beats : Beats best (b, c.args.partial.now.prefix) = subst (λ p. Beats best (b, p)) c.prefix.ensures.value (c.skips.ensures.0 c.if-skips.true) in
+    λ _. skipped-covered task c.args.partial.now.prefix b best (band-in_order task c.task-task.ensures.lawful) c.in-Some.ensures.found.1 beats
 
 pub returns-then-progress-eq0-clause-spent : goal.returns-then-progress-eq0-clause-spent
 returns-then-progress-eq0-clause-spent t c =
@@ -53,7 +54,7 @@ returns-then-prefix-items-clause-kept t c =
     let items : c.new.result.path.items ≡ c.prefix.result.now = c.new.ensures.path ∙ c.prefix-then-prefix-items.ensures.value ∙ sym c.prefix.ensures.value in
     let same : recorded_key c.new.result ≡ (c.in-Some.bound, c.prefix.result.now) = ap₂ (λ d p. (d, p)) c.new.ensures.distance items in
     Beats-better best c.new.result
-    (λ beats. absurd (let passes = c.passes_over.ensures.1 (subst (Beats best) same beats) in false≢true (sym c.if-passes_over.false ∙ passes)))
+    (λ beats. absurd (let passes = c.skips.ensures.1 (subst (Beats best) same beats) in false≢true (sym c.if-skips.false ∙ passes)))
 
 pub returns-then-prefix-items-clause-covered : goal.returns-then-prefix-items-clause-covered
 returns-then-prefix-items-clause-covered t c =
@@ -76,7 +77,7 @@ loop-number-init t c =
     let items = item_count c.items.ensures.value c.task-task.ensures.value in
     record {
       same = refl;
-      passed = Explored-first task c.args.partial.now.prefix c.args.progress.now _ c.in-Some.ensures.found.0
+      visited = Explored-first task c.args.partial.now.prefix c.args.progress.now _ c.in-Some.ensures.found.0
           (λ complete. c.if-prefix-items.false (ap length c.prefix-2.ensures.value ∙ complete ∙ sym items))
           c.requires.found refl (omega (arith, c.if-progress-eq0.false));
     }
@@ -91,7 +92,7 @@ explore-within-requires t c =
     let more : length c.try_place.new.self.prefix ≡ length (front ++ number ∷ []) = ap (λ (p : Placing). length p.prefix) placed in
     let same : length c.try_place.new.self.task.items ≡ length c.args.partial.now.task.items = ap (λ (p : Placing). length p.task.items) placed in (
       omega (arith, c.decreases, more, same, incomplete, length-append front (number ∷ []), c.in-Some.ensures.found.0.sound.short),
-      subst (λ (p : Placing). IfSome c.loop-number.progress.best (IsFound p.task)) (sym placed) c.loop-number.invariant.passed.found,
+      subst (λ (p : Placing). IfSome c.loop-number.progress.best (IsFound p.task)) (sym placed) c.loop-number.invariant.visited.found,
     )
 
 pub returns-then-not-within-clause-spent : goal.returns-then-not-within-clause-spent
@@ -102,7 +103,7 @@ returns-then-not-within-clause-spent t c =
     let placed = placed-longer c.try_place.result c.loop-number.partial c.args.partial.now c.try_place.new.self number c.loop-number.invariant.same (sym c.is_ok.ensures.value ∙ c.if-is_ok.true) c.try_place.ensures.placed in
     let spent : HasViable task (Extends (front ++ number ∷ [])) (c.loop-number.progress.left + 1) =
     subst (λ (p : Placing). HasViable p.task (Extends p.prefix) (c.loop-number.progress.left + 1)) placed (c.if-not-within.ensures.spent refl) in
-    λ _. HasViable-spent task front number c.args.progress.now c.loop-number.progress c.loop-number.invariant.passed spent
+    λ _. HasViable-spent task front number c.args.progress.now c.loop-number.progress c.loop-number.invariant.visited spent
 
 pub loop-number-preserved : goal.loop-number-preserved
 loop-number-preserved t c =
@@ -124,8 +125,8 @@ loop-number-preserved t c =
           subst (λ (p : Placing). Explored p.task (Extends p.prefix) c.loop-number.progress w.explore-within.new.progress) placed here in
           record {
             same = w.partial-is ∙ undone c.args.partial.now w.undo.new.self number w.undo.ensures.0 (sym placed ∙ sym w.explore-within.ensures.same ∙ w.undo.ensures.1);
-            passed = subst (λ now. Explored task (IsPassed front (number + 1)) before now) (sym w.progress-is)
-                (Explored-next task front number before c.loop-number.progress w.explore-within.new.progress c.loop-number.invariant.passed next);
+            visited = subst (λ now. Explored task (IsVisited front (number + 1)) before now) (sym w.progress-is)
+                (Explored-next task front number before c.loop-number.progress w.explore-within.new.progress c.loop-number.invariant.visited next);
           }
       | else-is_ok w ↦
           let refused = sym c.is_ok.ensures.value ∙ w.if-is_ok.false in
@@ -134,8 +135,8 @@ loop-number-preserved t c =
           absurd (false≢true (sym refused ∙ ok)) in
           record {
             same = w.partial-is ∙ from_err (c.try_place.new.self ≡ c.loop-number.partial) c.try_place.result refused c.try_place.ensures.unchanged ∙ c.loop-number.invariant.same;
-            passed = subst (λ now. Explored task (IsPassed front (number + 1)) before now) (sym w.progress-is)
-                (Explored-refused task front number before c.loop-number.progress unsound c.loop-number.invariant.passed);
+            visited = subst (λ now. Explored task (IsVisited front (number + 1)) before now) (sym w.progress-is)
+                (Explored-refused task front number before c.loop-number.progress unsound c.loop-number.invariant.visited);
           }
     ]
 
@@ -144,10 +145,11 @@ returns-clause-covered t c =
     let task = c.args.partial.now.task in
     let front = c.args.partial.now.prefix in
     let items = item_count c.items.ensures.value c.task-task.ensures.value in
-    let positions : length c.task-task.result.now.hold.positions ≡ length task.hold.positions = ap (λ (p : Problem). length p.hold.positions) c.task-task.ensures.value in
-    let all : length task.hold.positions ≤ c.loop-number.number = omega (arith, positions, c.position_count-number-end.ensures, c.loop-number-test.false) in
+    let positions : length c.hold-hold.result.now.positions ≡ length task.hold.positions =
+    ap (λ (h : Layout). length h.positions) (c.hold-hold.ensures.value ∙ ap (λ (p : Problem). p.hold) c.task-task.ensures.value) in
+    let all : length task.hold.positions ≤ c.loop-number.number = omega (arith, positions, c.position_count-number-end.ensures.value, c.loop-number-test.false) in
     let done = Explored-last task front c.loop-number.number c.args.progress.now c.loop-number.progress all
-    (λ complete. c.if-prefix-items.false (ap length c.prefix-2.ensures.value ∙ complete ∙ sym items)) c.in-Some.ensures.found.0.sound c.loop-number.invariant.passed in
+    (λ complete. c.if-prefix-items.false (ap length c.prefix-2.ensures.value ∙ complete ∙ sym items)) c.in-Some.ensures.found.0.sound c.loop-number.invariant.visited in
     λ _. done.covered
 
 pub returns-clause-counted : goal.returns-clause-counted
@@ -155,8 +157,9 @@ returns-clause-counted t c =
     let task = c.args.partial.now.task in
     let front = c.args.partial.now.prefix in
     let items = item_count c.items.ensures.value c.task-task.ensures.value in
-    let positions : length c.task-task.result.now.hold.positions ≡ length task.hold.positions = ap (λ (p : Problem). length p.hold.positions) c.task-task.ensures.value in
-    let all : length task.hold.positions ≤ c.loop-number.number = omega (arith, positions, c.position_count-number-end.ensures, c.loop-number-test.false) in
+    let positions : length c.hold-hold.result.now.positions ≡ length task.hold.positions =
+    ap (λ (h : Layout). length h.positions) (c.hold-hold.ensures.value ∙ ap (λ (p : Problem). p.hold) c.task-task.ensures.value) in
+    let all : length task.hold.positions ≤ c.loop-number.number = omega (arith, positions, c.position_count-number-end.ensures.value, c.loop-number-test.false) in
     let done = Explored-last task front c.loop-number.number c.args.progress.now c.loop-number.progress all
-    (λ complete. c.if-prefix-items.false (ap length c.prefix-2.ensures.value ∙ complete ∙ sym items)) c.in-Some.ensures.found.0.sound c.loop-number.invariant.passed in
+    (λ complete. c.if-prefix-items.false (ap length c.prefix-2.ensures.value ∙ complete ∙ sym items)) c.in-Some.ensures.found.0.sound c.loop-number.invariant.visited in
     λ _. done.counted

@@ -5,11 +5,11 @@ use Rattle.hold_limits.specs.BranchOrder.{ordered}
 use Rattle.hold_limits.specs.Placement.{IsSound}
 use Rattle.hold_limits.proofs.LawfulBounds.{lawful-bounds}
 use Rattle.hold_partial.specs.Limits.{limits_on, added_at}
-use Rattle.hold_partial.proofs.KeptLemmas.{level-is, demand-is, place-is, list-is, limits-within, last-known, fronts-push, demand-light, level-bounded, place-near}
+use Rattle.hold_partial.proofs.KeptLemmas.{level-is, demand-is, entry-is, list-is, limits-within, last-known, fronts-push, demand-light, level-bounded, entry-near}
 use Rattle.hold_partial.proofs.LevelSteps.{level-next}
 use Rattle.hold_partial.proofs.LoadLemmas.{mass-at}
 use Rattle.hold_partial.proofs.LoadSteps.{loads-fit, loads-next}
-use Rattle.hold_partial.proofs.SoundNext.{next-item}
+use Rattle.hold_partial.proofs.ReachLemmas.{next-item}
 use Rattle.hold_partial.proofs.partial.Partial.put.Goals as goal
 
 pub bounds-deref-position : goal.bounds-deref-position
@@ -22,7 +22,7 @@ bounds-deref-position c =
     let q = c.args.position in
     let sound : IsSound t (prefix ++ q ∷ []) = rw (← c.self.view_is) at c.requires.sound in
     let known = last-known t prefix q sound in
-    omega (arith, kept.prepared.places.count, ap length c.deref-2.ensures.0)
+    omega (arith, kept.prepared.positions.count, ap length c.deref-2.ensures.0)
 
 pub with-requires-clause-number_known : goal.with-requires-clause-number_known
 with-requires-clause-number_known c =
@@ -72,7 +72,7 @@ with-requires-clause-influence_bounded c =
     let q = c.args.position in
     let sound : IsSound t (prefix ++ q ∷ []) = rw (← c.self.view_is) at c.requires.sound in
     let known = last-known t prefix q sound in
-    place-near t tables kept.lawful kept.prepared c.deref-2.result.now q _ c.deref-2.ensures.0 known
+    entry-near t tables kept.lawful kept.prepared c.deref-2.result.now q _ c.deref-2.ensures.0 known
 
 pub bounds-deref-position-2 : goal.bounds-deref-position-2
 bounds-deref-position-2 c =
@@ -133,8 +133,8 @@ invariant_of-self c =
     let demand = demand-is t tables kept.prepared c.deref.result.now c.len-rank.result _ next.0 c.deref.ensures.0 (subst (λ r. slice_get (ordered t.items) r ≡ Some next.0) (sym c.len-rank.ensures.value) next.1) in
     let listed = list-is t tables kept.prepared c.deref-3.result.now q c.index-deref-position.result c.as_slice-limits.result.now c.deref-3.ensures.0 known c.index-deref-position.is c.as_slice-limits.ensures.value in
     let level = level-is t prefix tables c.self.inside.levels loads kept c.len-rank.result _ c.len-rank.ensures.value in
-    let place = place-is t tables kept.prepared c.deref-2.result.now q _ c.deref-2.ensures.0 known in
-    let here = level-next t tables.ranks.items prefix next.0 q _ _ _ c.with.result short next.1 level demand place c.with.ensures.used c.with.ensures.taken_ranks c.with.ensures.index in
+    let place = entry-is t tables kept.prepared c.deref-2.result.now q _ c.deref-2.ensures.0 known in
+    let here = level-next t tables.ranks.items prefix next.0 q _ _ _ c.with.result short next.1 level demand place c.with.ensures.used c.with.ensures.blocked_ranks c.with.ensures.index in
     let few = (lawful-bounds t kept.lawful).items in
     let added : (k : ℕ) → slice_index c.add_load.new.loads k ≡ slice_index loads k + added_at next.0.mass.0 (limits_on t.hold q) k = λ k.
     c.add_load.ensures k ∙ ap₂ (λ mass limits. slice_index loads k + added_at mass limits k) demand.mass listed in

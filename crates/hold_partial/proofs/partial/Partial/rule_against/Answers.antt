@@ -6,10 +6,10 @@ use Rattle.hold_limits.specs.BranchOrder.{ordered}
 use Rattle.hold_limits.specs.Layout.{Layout}
 use Rattle.hold_partial.specs.Limits.{limits_on, rule_at}
 use Rattle.hold_partial.specs.Rules.{is_used, has_kind_at, excluding, limit_broken}
-use Rattle.hold_partial.proofs.KeptLemmas.{level-is, demand-is, place-is, list-is, limits-within, excluding-first, excluding-not, at-front}
+use Rattle.hold_partial.proofs.KeptLemmas.{level-is, demand-is, entry-is, list-is, limits-within, excluding-first, excluding-not, at-front}
 use Rattle.hold_partial.proofs.LoadLemmas.{mass-at}
 use Rattle.hold_partial.proofs.LoadSteps.{loads-fit_mass, first-over-is}
-use Rattle.hold_partial.proofs.SoundNext.{next-item}
+use Rattle.hold_partial.proofs.ReachLemmas.{next-item}
 use Rattle.hold_partial.proofs.partial.Partial.rule_against.Goals as goal
 
 pub returns-then-not-contains-clause-value : goal.returns-then-not-contains-clause-value
@@ -38,8 +38,8 @@ returns-then-not-contains-2-clause-value c =
     let at = at-front t prefix tables c.self.inside.levels loads kept q c.len.result c.len-rank.result _ c.deref.result.now _ item c.len.ensures.value c.if-position-len.false c.len-rank.ensures.value c.deref.ensures.0 there in
     let unused : is_used prefix q ≡ false = sym (c.contains.ensures ∙ at.2) ∙ c.if-contains.false in
     let of_kind : has_kind_at t.hold item q ≡ true = sym (c.contains-2.ensures ∙ at.3) ∙ c.if-not-contains.false in
-    let not_taking : is_accepted t.hold (item, q) ≡ false = sym (c.contains-3.ensures ∙ at.4) ∙ c.if-not-contains-2.true in
-    rw (at.1, unused, of_kind, not_taking) refl)
+    let not_accepting : is_accepted t.hold (item, q) ≡ false = sym (c.contains-3.ensures ∙ at.4) ∙ c.if-not-contains-2.true in
+    rw (at.1, unused, of_kind, not_accepting) refl)
 
 pub returns-in-Some-clause-value : goal.returns-in-Some-clause-value
 returns-in-Some-clause-value c =
@@ -53,12 +53,12 @@ returns-in-Some-clause-value c =
     let at = at-front t prefix tables c.self.inside.levels loads kept q c.len.result c.len-rank.result _ c.deref.result.now _ item c.len.ensures.value c.if-position-len.false c.len-rank.ensures.value c.deref.ensures.0 there in
     let unused : is_used prefix q ≡ false = sym (c.contains.ensures ∙ at.2) ∙ c.if-contains.false in
     let of_kind : has_kind_at t.hold item q ≡ true = sym (c.contains-2.ensures ∙ at.3) ∙ c.if-not-contains.false in
-    let taking : is_accepted t.hold (item, q) ≡ true = sym (c.contains-3.ensures ∙ at.4) ∙ c.if-not-contains-2.false in
+    let accepting : is_accepted t.hold (item, q) ≡ true = sym (c.contains-3.ensures ∙ at.4) ∙ c.if-not-contains-2.false in
     let level = level-is t prefix tables c.self.inside.levels loads kept c.len-rank.result _ c.len-rank.ensures.value in
-    let place = place-is t tables kept.prepared c.deref-2.result.now q _ c.deref-2.ensures.0 at.0 in
+    let place = entry-is t tables kept.prepared c.deref-2.result.now q _ c.deref-2.ensures.0 at.0 in
     let excludes : excluding t.hold prefix q ≡ Some c.in-Some.other = excluding-first t.hold prefix q c.intersection.result
     (λ a. c.intersection.ensures a ∙ ap₂ ◌&&◌ (place.excluding a) (level.used a)) c.in-Some.other c.in-Some.ensures.1 c.in-Some.ensures.2 in
-    rw (at.1, unused, of_kind, taking, excludes) refl)
+    rw (at.1, unused, of_kind, accepting, excludes) refl)
 
 pub first_over-requires-clause-within : goal.first_over-requires-clause-within
 first_over-requires-clause-within c =
@@ -68,7 +68,7 @@ first_over-requires-clause-within c =
     let loads = c.self.inside.loads in
     let kept = c.self.invariant in
     let q = c.args.position in
-    let less : q < length t.hold.positions = omega (arith, kept.prepared.places.count, c.len.ensures.value, c.if-position-len.false) in
+    let less : q < length t.hold.positions = omega (arith, kept.prepared.positions.count, c.len.ensures.value, c.if-position-len.false) in
     let listed = list-is t tables kept.prepared c.deref-3.result.now q c.index-deref-position.result c.as_slice-limits.result.now c.deref-3.ensures.0 less c.index-deref-position.is c.as_slice-limits.ensures.value in
     λ k d within. (
       limits-within t c.as_slice-limits.result.now q (length loads) kept.lawful listed (omega arith) k d within,
@@ -83,7 +83,7 @@ first_over-requires-clause-fits c =
     let loads = c.self.inside.loads in
     let kept = c.self.invariant in
     let q = c.args.position in
-    let less : q < length t.hold.positions = omega (arith, kept.prepared.places.count, c.len.ensures.value, c.if-position-len.false) in
+    let less : q < length t.hold.positions = omega (arith, kept.prepared.positions.count, c.len.ensures.value, c.if-position-len.false) in
     let listed = list-is t tables kept.prepared c.deref-3.result.now q c.index-deref-position.result c.as_slice-limits.result.now c.deref-3.ensures.0 less c.index-deref-position.is c.as_slice-limits.ensures.value in
     let short : length prefix < length t.items = rw (← c.self.view_is) at c.requires in
     let next = next-item t (length prefix) short in
@@ -101,15 +101,15 @@ returns-in_err-place-clause-value c =
     let loads = c.self.inside.loads in
     let kept = c.self.invariant in
     let q = c.args.position in
-    let less : q < length t.hold.positions = omega (arith, kept.prepared.places.count, c.len.ensures.value, c.if-position-len.false) in
+    let less : q < length t.hold.positions = omega (arith, kept.prepared.positions.count, c.len.ensures.value, c.if-position-len.false) in
     let listed = list-is t tables kept.prepared c.deref-3.result.now q c.index-deref-position.result c.as_slice-limits.result.now c.deref-3.ensures.0 less c.index-deref-position.is c.as_slice-limits.ensures.value in
     rw (← c.self.view_is) (λ item there.
     let at = at-front t prefix tables c.self.inside.levels loads kept q c.len.result c.len-rank.result _ c.deref.result.now _ item c.len.ensures.value c.if-position-len.false c.len-rank.ensures.value c.deref.ensures.0 there in
     let unused : is_used prefix q ≡ false = sym (c.contains.ensures ∙ at.2) ∙ c.if-contains.false in
     let of_kind : has_kind_at t.hold item q ≡ true = sym (c.contains-2.ensures ∙ at.3) ∙ c.if-not-contains.false in
-    let taking : is_accepted t.hold (item, q) ≡ true = sym (c.contains-3.ensures ∙ at.4) ∙ c.if-not-contains-2.false in
+    let accepting : is_accepted t.hold (item, q) ≡ true = sym (c.contains-3.ensures ∙ at.4) ∙ c.if-not-contains-2.false in
     let level = level-is t prefix tables c.self.inside.levels loads kept c.len-rank.result _ c.len-rank.ensures.value in
-    let place = place-is t tables kept.prepared c.deref-2.result.now q _ c.deref-2.ensures.0 at.0 in
+    let place = entry-is t tables kept.prepared c.deref-2.result.now q _ c.deref-2.ensures.0 at.0 in
     let excludes : excluding t.hold prefix q ≡ None = excluding-not t.hold prefix q c.intersection.result
     (λ a. c.intersection.ensures a ∙ ap₂ ◌&&◌ (place.excluding a) (level.used a)) c.in_default.ensures in
     let short : length prefix < length t.items = rw (← c.self.view_is) at c.requires in
@@ -117,7 +117,7 @@ returns-in_err-place-clause-value c =
     let first : ℕ → List ℕ → Option ℕ = λ mass limits. find (λ j. nat_lt (slice_index tables.allowed j) (slice_index loads j + mass)) limits in
     let none : first item.mass.0 (limits_on t.hold q) ≡ None = sym (c.in_err-place.ensures ∙ ap₂ first at.5 listed) in
     let limits : limit_broken t (prefix ++ q ∷ []) ≡ None = sym over ∙ ap (option_map (rule_at t.hold)) none in
-    rw (c.from_residual.ensures, at.1, unused, of_kind, taking, excludes, limits) refl)
+    rw (c.from_residual.ensures, at.1, unused, of_kind, accepting, excludes, limits) refl)
 
 pub returns-clause-value : goal.returns-clause-value
 returns-clause-value c =
@@ -127,15 +127,15 @@ returns-clause-value c =
     let loads = c.self.inside.loads in
     let kept = c.self.invariant in
     let q = c.args.position in
-    let less : q < length t.hold.positions = omega (arith, kept.prepared.places.count, c.len.ensures.value, c.if-position-len.false) in
+    let less : q < length t.hold.positions = omega (arith, kept.prepared.positions.count, c.len.ensures.value, c.if-position-len.false) in
     let listed = list-is t tables kept.prepared c.deref-3.result.now q c.index-deref-position.result c.as_slice-limits.result.now c.deref-3.ensures.0 less c.index-deref-position.is c.as_slice-limits.ensures.value in
     rw (← c.self.view_is) (λ item there.
     let at = at-front t prefix tables c.self.inside.levels loads kept q c.len.result c.len-rank.result _ c.deref.result.now _ item c.len.ensures.value c.if-position-len.false c.len-rank.ensures.value c.deref.ensures.0 there in
     let unused : is_used prefix q ≡ false = sym (c.contains.ensures ∙ at.2) ∙ c.if-contains.false in
     let of_kind : has_kind_at t.hold item q ≡ true = sym (c.contains-2.ensures ∙ at.3) ∙ c.if-not-contains.false in
-    let taking : is_accepted t.hold (item, q) ≡ true = sym (c.contains-3.ensures ∙ at.4) ∙ c.if-not-contains-2.false in
+    let accepting : is_accepted t.hold (item, q) ≡ true = sym (c.contains-3.ensures ∙ at.4) ∙ c.if-not-contains-2.false in
     let level = level-is t prefix tables c.self.inside.levels loads kept c.len-rank.result _ c.len-rank.ensures.value in
-    let place = place-is t tables kept.prepared c.deref-2.result.now q _ c.deref-2.ensures.0 at.0 in
+    let place = entry-is t tables kept.prepared c.deref-2.result.now q _ c.deref-2.ensures.0 at.0 in
     let excludes : excluding t.hold prefix q ≡ None = excluding-not t.hold prefix q c.intersection.result
     (λ a. c.intersection.ensures a ∙ ap₂ ◌&&◌ (place.excluding a) (level.used a)) c.in_default.ensures in
     let short : length prefix < length t.items = rw (← c.self.view_is) at c.requires in
@@ -144,4 +144,4 @@ returns-clause-value c =
     let some : first item.mass.0 (limits_on t.hold q) ≡ Some c.in_ok-place.place = sym (c.in_ok-place.ensures ∙ ap₂ first at.5 listed) in
     let limits : limit_broken t (prefix ++ q ∷ []) ≡ Some (rule_at t.hold c.in_ok-place.place) = sym over ∙ ap (option_map (rule_at t.hold)) some in
     let broken = c.rule_of.ensures ∙ ap (λ (h : Layout). rule_at h c.in_ok-place.place) c.hold.ensures.value in
-    rw (at.1, unused, of_kind, taking, excludes, limits) (ap (λ r. Some r) broken))
+    rw (at.1, unused, of_kind, accepting, excludes, limits) (ap (λ r. Some r) broken))

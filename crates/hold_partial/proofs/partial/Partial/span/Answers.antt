@@ -7,10 +7,9 @@ use Rattle.hold_limits.proofs.LawfulBounds.{lawful-bounds}
 use Rattle.hold_partial.specs.Kept.{IsKept}
 use Rattle.hold_partial.specs.Placing.{Placing}
 use Rattle.hold_partial.specs.Reach.{open_moments, has_open_position, least, greatest}
-use Rattle.hold_partial.proofs.KeptLemmas.{level-is, level-bounded, remaining-demand, remaining-start, ends-of, rank-within}
+use Rattle.hold_partial.proofs.KeptLemmas.{level-is, level-bounded, remaining-demand, remaining-start, moment-band, rank-within}
 use Rattle.hold_partial.proofs.LoadLemmas.{mass-at}
-use Rattle.hold_partial.proofs.ReachLemmas.{sum-next, all-next, none-open, some-open, moments-within, reach-none, reach-some}
-use Rattle.hold_partial.proofs.SoundNext.{next-item}
+use Rattle.hold_partial.proofs.ReachLemmas.{next-item, sum-next, all-next, none-open, some-open, moments-within, reach-none, reach-some}
 use Rattle.hold_partial.proofs.partial.Partial.span.Goals as goal
 
 pub loop-demand-init : goal.loop-demand-init
@@ -32,8 +31,8 @@ loop-demand-init c =
       high_bounded = level-bounded t prefix tables levels loads kept placed _ placed_is;
     }
 
-pub ends_on-requires : goal.ends_on-requires
-ends_on-requires c =
+pub moment_band-requires : goal.moment_band-requires
+moment_band-requires c =
     let t = c.args.self.now.task in
     let prefix = c.args.self.now.prefix in
     let tables = c.self.inside.tables in
@@ -47,8 +46,8 @@ ends_on-requires c =
     let next = next-item t (placed + i) within in
     rank-within t tables _ next.0 (remaining-demand t tables kept.prepared c.as_slice.result.now placed i _ next.0 c.as_slice.ensures.value next.1) c.as_slice-ranks.result.now c.as_slice-ranks.ensures.value
 
-pub returns-in_err-ends-clause-value : goal.returns-in_err-ends-clause-value
-returns-in_err-ends-clause-value c =
+pub returns-in_err-band-clause-value : goal.returns-in_err-band-clause-value
+returns-in_err-band-clause-value c =
     let t = c.args.self.now.task in
     let prefix = c.args.self.now.prefix in
     let tables = c.self.inside.tables in
@@ -60,9 +59,9 @@ returns-in_err-ends-clause-value c =
     let i = c.loop-demand.demand-index in
     let within : placed + i < length t.items = omega (arith, c.loop-demand-test.true, length-drop placed c.as_slice.result.now, ap length c.as_slice.ensures.value, kept.prepared.demands.count) in
     let next = next-item t (placed + i) within in
-    let ends = ends-of t prefix tables kept.prepared _ (level-is t prefix tables levels loads kept placed _ placed_is) _ next.0
-    (remaining-demand t tables kept.prepared c.as_slice.result.now placed i _ next.0 c.as_slice.ensures.value next.1) c.as_slice-ranks.result.now c.as_slice-ranks.ensures.value None c.in_err-ends.ensures in
-    let none = none-open t prefix next.0 ends in
+    let band = moment-band t prefix tables kept.prepared _ (level-is t prefix tables levels loads kept placed _ placed_is) _ next.0
+    (remaining-demand t tables kept.prepared c.as_slice.result.now placed i _ next.0 c.as_slice.ensures.value next.1) c.as_slice-ranks.result.now c.as_slice-ranks.ensures.value None c.in_err-band.ensures in
+    let none = none-open t prefix next.0 band in
     rw c.from_residual.ensures (reach-none t prefix (placed + i) next.0 within next.1 c.loop-demand.invariant.found none)
 
 pub sum_of-low-requires-clause-one_bounded : goal.sum_of-low-requires-clause-one_bounded
@@ -110,12 +109,12 @@ sum_of-low-requires-clause-other_bounded c =
     let i = c.loop-demand.demand-index in
     let within : placed + i < length t.items = omega (arith, c.loop-demand-test.true, length-drop placed c.as_slice.result.now, ap length c.as_slice.ensures.value, kept.prepared.demands.count) in
     let next = next-item t (placed + i) within in
-    let ends = ends-of t prefix tables kept.prepared _ (level-is t prefix tables levels loads kept placed _ placed_is) _ next.0
-    (remaining-demand t tables kept.prepared c.as_slice.result.now placed i _ next.0 c.as_slice.ensures.value next.1) c.as_slice-ranks.result.now c.as_slice-ranks.ensures.value (Some c.in_ok-ends.ends) c.in_ok-ends.ensures in
+    let band = moment-band t prefix tables kept.prepared _ (level-is t prefix tables levels loads kept placed _ placed_is) _ next.0
+    (remaining-demand t tables kept.prepared c.as_slice.result.now placed i _ next.0 c.as_slice.ensures.value next.1) c.as_slice-ranks.result.now c.as_slice-ranks.ensures.value (Some c.in_ok-band.band) c.in_ok-band.ensures in
     let light = mass-at t kept.lawful (placed + i) next.0 within next.1 in
     let bound = moments-within t prefix next.0 kept.lawful light in
     let few = (lawful-bounds t kept.lawful).items in
-    omega (arith, ap unsigned_abs ends.1)
+    omega (arith, ap unsigned_abs band.1)
 
 pub sum_of-high-requires-clause-other_bounded : goal.sum_of-high-requires-clause-other_bounded
 sum_of-high-requires-clause-other_bounded c =
@@ -130,12 +129,12 @@ sum_of-high-requires-clause-other_bounded c =
     let i = c.loop-demand.demand-index in
     let within : placed + i < length t.items = omega (arith, c.loop-demand-test.true, length-drop placed c.as_slice.result.now, ap length c.as_slice.ensures.value, kept.prepared.demands.count) in
     let next = next-item t (placed + i) within in
-    let ends = ends-of t prefix tables kept.prepared _ (level-is t prefix tables levels loads kept placed _ placed_is) _ next.0
-    (remaining-demand t tables kept.prepared c.as_slice.result.now placed i _ next.0 c.as_slice.ensures.value next.1) c.as_slice-ranks.result.now c.as_slice-ranks.ensures.value (Some c.in_ok-ends.ends) c.in_ok-ends.ensures in
+    let band = moment-band t prefix tables kept.prepared _ (level-is t prefix tables levels loads kept placed _ placed_is) _ next.0
+    (remaining-demand t tables kept.prepared c.as_slice.result.now placed i _ next.0 c.as_slice.ensures.value next.1) c.as_slice-ranks.result.now c.as_slice-ranks.ensures.value (Some c.in_ok-band.band) c.in_ok-band.ensures in
     let light = mass-at t kept.lawful (placed + i) next.0 within next.1 in
     let bound = moments-within t prefix next.0 kept.lawful light in
     let few = (lawful-bounds t kept.lawful).items in
-    omega (arith, ap unsigned_abs ends.2)
+    omega (arith, ap unsigned_abs band.2)
 
 pub loop-demand-preserved : goal.loop-demand-preserved
 loop-demand-preserved c =
@@ -150,16 +149,16 @@ loop-demand-preserved c =
     let i = c.loop-demand.demand-index in
     let within : placed + i < length t.items = omega (arith, c.loop-demand-test.true, length-drop placed c.as_slice.result.now, ap length c.as_slice.ensures.value, kept.prepared.demands.count) in
     let next = next-item t (placed + i) within in
-    let ends = ends-of t prefix tables kept.prepared _ (level-is t prefix tables levels loads kept placed _ placed_is) _ next.0
-    (remaining-demand t tables kept.prepared c.as_slice.result.now placed i _ next.0 c.as_slice.ensures.value next.1) c.as_slice-ranks.result.now c.as_slice-ranks.ensures.value (Some c.in_ok-ends.ends) c.in_ok-ends.ensures in
+    let band = moment-band t prefix tables kept.prepared _ (level-is t prefix tables levels loads kept placed _ placed_is) _ next.0
+    (remaining-demand t tables kept.prepared c.as_slice.result.now placed i _ next.0 c.as_slice.ensures.value next.1) c.as_slice-ranks.result.now c.as_slice-ranks.ensures.value (Some c.in_ok-band.band) c.in_ok-band.ensures in
     let light = mass-at t kept.lawful (placed + i) next.0 within next.1 in
     let bound = moments-within t prefix next.0 kept.lawful light in
     let few = (lawful-bounds t kept.lawful).items in
-    let least_is = ends.1 in
-    let greatest_is = ends.2 in
+    let least_is = band.1 in
+    let greatest_is = band.2 in
     let lows = sum-next (λ item. least (open_moments t prefix item)) t (placed + i) next.0 within next.1 in
     let highs = sum-next (λ item. greatest (open_moments t prefix item)) t (placed + i) next.0 within next.1 in
-    let some = some-open t prefix next.0 ends.0 in
+    let some = some-open t prefix next.0 band.0 in
     rw (← add_assoc placed i 1) record {
       low = omega (arith, ints);
       high = omega (arith, ints);

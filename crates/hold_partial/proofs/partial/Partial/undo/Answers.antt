@@ -8,7 +8,7 @@ use Rattle.hold_partial.specs.Levels.{IsLevel}
 use Rattle.hold_partial.specs.Limits.{limits_on, added_at, AreLoads}
 use Rattle.hold_partial.proofs.KeptLemmas.{demand-is, list-is, limits-within, last-known, fronts-pop}
 use Rattle.hold_partial.proofs.LoadSteps.{loads-there, loads-back}
-use Rattle.hold_partial.proofs.SoundNext.{next-item}
+use Rattle.hold_partial.proofs.ReachLemmas.{next-item}
 use Rattle.hold_partial.proofs.partial.Partial.undo.Goals as goal
 
 pub bounds-deref-position : goal.bounds-deref-position

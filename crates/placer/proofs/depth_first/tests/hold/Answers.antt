@@ -1,11 +1,11 @@
 use Rattle.std.proofs.Common.{◌≡◌, ◌≤◌, List, [], ◌∷◌}
 use Rattle.std.proofs.lemmas.List.Elements.{All-cons, All-from_recursion, All-nil, All-same}
 use Rattle.std.specs.Prelude.{All}
-use Rattle.hold_limits.specs.declared.lists.Fit.{Fit}
-use Rattle.hold_limits.specs.declared.parts.Position.{Position}
-use Rattle.hold_limits.specs.declared.parts.Combined.{Combined}
-use Rattle.hold_limits.specs.declared.parts.Cumulative.{Cumulative}
-use Rattle.hold_limits.specs.Spellings.{IsKind}
+use Rattle.hold_parts.specs.declared.lists.Fit.{Fit}
+use Rattle.hold_parts.specs.declared.parts.Position.{Position}
+use Rattle.hold_parts.specs.declared.parts.Combined.{Combined}
+use Rattle.hold_parts.specs.declared.parts.Cumulative.{Cumulative}
+use Rattle.hold_parts.specs.Spellings.{IsKind}
 use Rattle.placer.proofs.depth_first.tests.hold.Goals as goal
 
 All-one : {X : Type 0} (P : X → Type 0) (x : X) (xs : List X) → xs ≡ x ∷ [] → P x → All P xs
@@ -13,10 +13,10 @@ All-one P x xs is p = All-same P xs (x ∷ []) is (All-cons P x [] p (All-nil P)
 
 -- what the reader of a hold makes sure of at each position
 HasDigit : Position → Type 0
-HasDigit place = place.compartment ≤ 9
+HasDigit position = position.compartment ≤ 9
 
 HasKinds : Position → Type 0
-HasKinds place = All (λ (fit : Fit). IsKind fit.kind) place.fits
+HasKinds position = All (λ (fit : Fit). IsKind fit.kind) position.fits
 
 pub new-requires : goal.new-requires
 unfolding HasDigit HasKinds

@@ -1,0 +1,18 @@
+use Rattle.std.proofs.Common.{◌≡◌, ◌||◌, ◌==◌, true, nat_lt, length, ◌∙◌, refl, arith}
+use Rattle.std.proofs.lemmas.Bool.Decides.{nat_tests}
+use Rattle.std.proofs.lemmas.Int.{ints}
+use Rattle.hold_limits.specs.Enumeration.{exclude}
+use Rattle.hold_partial.specs.Sets.{has}
+use Rattle.hold_partial.proofs.ArrangementLemmas.{at_rank-same}
+use Rattle.hold_partial.proofs.position_table.entry_of.Goals as goal
+
+pub returns : goal.returns
+returns c =
+    let hold = c.args.hold.now in
+    let q = c.args.number in
+    record {
+      influence = omega (arith, ints);
+      excluding = c.excluding_positions.ensures;
+      blocked_ranks = λ r. c.ranks_of.ensures r ∙ at_rank-same hold c.args.ranks.now c.requires (has c.blocked_positions.result) (λ a. (q == a) || exclude hold q a)
+          (λ a below. let inside : nat_lt a (length hold.positions) ≡ true = grind (arith, nat_tests) in c.blocked_positions.ensures.value a ∙ rw inside refl) r;
+    }
