@@ -1,4 +1,4 @@
--- a text is cut at one place only
+-- a text is split at one point only
 use Rattle.std.proofs.Common.{◌≡◌, ℕ, ◌-◌, ◌+◌, false, true, eqb, List, [], ◌∷◌, ◌++◌, length, take, drop, refl, sym, ◌∙◌, arith, Option, MatchOption, ◌≢◌, eq-eqb}
 use denote.Ref.{Bor}
 use Rattle.std.specs.Cmp.Lexicographic.{pointwise}
@@ -26,7 +26,7 @@ cut_once mark (a ∷ front) rest (b ∷ other) rest' p q cut cut' e =
     let again = cut_once mark front rest other rest' (All-tail (λ x. eqb x mark ≡ false) a front p) (All-tail (λ x. eqb x mark ≡ false) b other q) cut cut' tails in
     (let first : front ≡ other = again.0 in cc, again.1)
 
--- where the cut is at the mark, the texts behind it are equal too
+-- where the cut is at the mark, the texts after it are equal too
 pub split_once_again : (mark : ℕ) (front rest other rest' : List ℕ) → Avoids mark front → Avoids mark other → front ++ mark ∷ rest ≡ other ++ mark ∷ rest' → (front ≡ other) × (rest ≡ rest')
 split_once_again mark front rest other rest' p q e =
     let same = cut_once mark front (mark ∷ rest) other (mark ∷ rest') p q refl refl e in
@@ -36,11 +36,11 @@ split_once_again mark front rest other rest' p q e =
 pub cut_at_mark : (mark : ℕ) (text front rest other rest' : List ℕ) → text ≡ front ++ rest → Avoids mark front → IsCutAt mark rest → Avoids mark other → text ≡ other ++ mark ∷ rest' → (front ≡ other) × (rest ≡ mark ∷ rest')
 cut_at_mark mark text front rest other rest' whole p cut q e = cut_once mark front rest other (mark ∷ rest') p q cut refl (sym whole ∙ e)
 
-pub behind_first : (mark : ℕ) (rest rest' : List ℕ) → rest ≡ mark ∷ rest' → take (length rest - 1) (drop 1 rest) ≡ rest'
-behind_first mark rest rest' e = rw e (take_all (length (mark ∷ rest') - 1) rest' (omega arith))
+pub after_first : (mark : ℕ) (rest rest' : List ℕ) → rest ≡ mark ∷ rest' → take (length rest - 1) (drop 1 rest) ≡ rest'
+after_first mark rest rest' e = rw e (take_all (length (mark ∷ rest') - 1) rest' (omega arith))
 
-pub behind_is : (text prefix : List ℕ) (r : Option (Bor (List ℕ))) → MatchOption r (pointwise eqb (take (length prefix) text) prefix ≡ false) (λ x. (pointwise eqb (take (length prefix) text) prefix ≡ true) × (x.now ≡ drop (length prefix) text) × (length x.now + length prefix ≡ length text)) → MatchOption r ((rest : List ℕ) → text ≢ prefix ++ rest) (λ x. text ≡ prefix ++ x.now)
-behind_is text prefix r h = strip_prefix_is Decides-eqb text prefix r h
+pub after_prefix_is : (text prefix : List ℕ) (r : Option (Bor (List ℕ))) → MatchOption r (pointwise eqb (take (length prefix) text) prefix ≡ false) (λ x. (pointwise eqb (take (length prefix) text) prefix ≡ true) × (x.now ≡ drop (length prefix) text) × (length x.now + length prefix ≡ length text)) → MatchOption r ((rest : List ℕ) → text ≢ prefix ++ rest) (λ x. text ≡ prefix ++ x.now)
+after_prefix_is text prefix r h = strip_prefix_is Decides-eqb text prefix r h
 
 -- a text with the mark in it does not avoid the mark
 pub has_mark : (mark : ℕ) (front rest : List ℕ) → Avoids mark (front ++ mark ∷ rest) → ⊥

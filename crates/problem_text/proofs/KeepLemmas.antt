@@ -1,20 +1,20 @@
--- numbers of positions as bytes change no answer
+-- position numbers as bytes change no answer
 use Rattle.std.proofs.Common.{◌≡◌, ⊎_elim, ℕ, ◌≤◌, true, false, Bool, ◌||◌, nat_lt, List, [], ◌∷◌, length, map, refl, sym, ◌∙◌, ap, subst, arith, All, Result, Ok, Err, Option, Some, None, IfOk, IfErr, MatchResult}
 use Rattle.std.proofs.lemmas.Bool.{cases_Bool, ltb-false}
 use Rattle.std.specs.Bool.{◌==◌}
 use Rattle.std.specs.Option.{option_or}
 use Rattle.std.proofs.lemmas.Option.{none-some}
 use Rattle.std.proofs.lemmas.List.Elements.{All-head, All-tail, All-map}
-use Rattle.hold_limits.specs.declared.parts.Position.{Position}
-use Rattle.hold_limits.specs.declared.parts.Combined.{Combined}
-use Rattle.hold_limits.specs.declared.parts.Cumulative.{Cumulative}
+use Rattle.hold_parts.specs.declared.parts.Position.{Position}
+use Rattle.hold_parts.specs.declared.parts.Combined.{Combined}
+use Rattle.hold_parts.specs.declared.parts.Cumulative.{Cumulative}
 use Rattle.hold_limits.specs.declared.fault.HoldFault.{HoldFault}
 use Rattle.hold_limits.specs.declared.fault.HoldFault.TheVariants.{Positions}
 use Rattle.hold_limits.specs.Layout.{Layout}
 use Rattle.hold_limits.specs.Problem.{Problem}
 use Rattle.hold_limits.specs.Faults.{fault_if, hold_fault, task_fault, has_wrong_number, IsWellSpelled, IsLawful}
 use Rattle.problem_text.specs.TaskText.{IsNamed, IsSpelledExclude, IsSpelledCombined, IsSpelledCumulative, IsSpelledLoose, IsSpelled, Spells}
-use Rattle.problem_text.specs.Places.{byte_of, keep_pair, keep_combined, keep_cumulative, keep_loose, keep_problem}
+use Rattle.problem_text.specs.PositionNumbers.{byte_of, keep_pair, keep_combined, keep_cumulative, keep_loose, keep_problem}
 use Rattle.problem_text.specs.Refusals.{IsRefused}
 use Rattle.problem_text.specs.Refusals.IsRefused.{wrong_hold, wrong_task}
 use Rattle.problem_text.specs.Reading.{IsFaultOf}
@@ -52,7 +52,7 @@ kept_whole t s few =
       ideal_high = t.ideal_high;
     }
 
--- one with more is refused for their number alone
+-- one with more is refused for having too many
 or_true : (b : Bool) → (b || true) ≡ true
 or_true true = refl
 or_true false = refl
@@ -84,7 +84,7 @@ well_spelled t s = record {
   cumulative = All-map (λ (limit : Cumulative). limit.most.0 ≤ 999999999) keep_cumulative t.hold.cumulative (λ k d l. let most = (s.cumulative k d l).most in omega (arith, most));
 }
 
--- ---- the answer of the reader
+-- ---- the result of the reader
 
 pub task_is_read : (text : List ℕ) (t p : Problem) → Spells text t → p ≡ keep_problem t → (r : Result Problem TextFault) → IfOk r (λ task. (task ≡ p) × IsLawful task) → IfOk r (λ task. Spells text task × IsLawful task)
 task_is_read text t p s e (Ok task) made =

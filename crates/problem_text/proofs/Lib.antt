@@ -12,3 +12,4 @@ pub mod ReadLemmas
 pub mod KeepLemmas
 pub mod WriterLemmas
 pub mod SpelledTask
+pub mod SomeAnswer

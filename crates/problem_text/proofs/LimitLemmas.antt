@@ -4,19 +4,20 @@ use Rattle.std.proofs.lemmas.List.{append-nil, append_cancel_left}
 use Rattle.std.proofs.lemmas.List.Elements.{All-head, All-tail, All-cons, All-nil, All-same}
 use Rattle.mass_units.specs.Spelling.{number_text}
 use Rattle.mass_units.proofs.SpellingLemmas.{number_text-avoids, number_text-injective}
-use Rattle.hold_limits.specs.declared.parts.Position.{Position}
-use Rattle.hold_limits.specs.declared.parts.Combined.{Combined}
-use Rattle.hold_limits.specs.declared.parts.Cumulative.{Cumulative}
-use Rattle.hold_limits.specs.declared.parts.Loose.{Loose}
+use Rattle.hold_parts.specs.declared.parts.Position.{Position}
+use Rattle.hold_parts.specs.declared.parts.Combined.{Combined}
+use Rattle.hold_parts.specs.declared.parts.Cumulative.{Cumulative}
+use Rattle.hold_parts.specs.declared.parts.Loose.{Loose}
 use Rattle.problem_text.specs.Cuts.{Avoids}
 use Rattle.problem_text.specs.WordRuns.{run_text, name_text}
-use Rattle.problem_text.specs.TaskText.{line_of, side_word, exclude_line, combined_line, cumulative_line, loose_line, name_at, IsNamed, IsSpelledExclude, IsSpelledCombined, IsSpelledCumulative, IsSpelledLoose}
+use Rattle.problem_text.specs.TaskText.{line_of, side_word, exclude_line, combined_line, cumulative_line, loose_line, IsNamed, IsSpelledExclude, IsSpelledCombined, IsSpelledCumulative, IsSpelledLoose}
+use Rattle.hold_limits.specs.Layout.{name_at}
 use Rattle.problem_text.proofs.CutLemmas.{cut_once, split_once_again}
 use Rattle.problem_text.proofs.WordLemmas.{avoids-append, avoids-spaced, plain_word}
 use Rattle.problem_text.proofs.NameLemmas.{name_at-avoids, named_once}
 use Rattle.problem_text.proofs.RunLemmas.{AreRead, run_text-begins, run_once}
 
--- the names of the positions hold no such byte
+-- the names of the positions do not contain the byte
 abbrev pub AreClear : ℕ → List Position → Type 0
 AreClear k ps = All (λ (q : Position). Avoids k q.name) ps
 

@@ -3,7 +3,7 @@ use Rattle.std.proofs.Common.{◌≡◌, ℤ, ◌++◌, ◌∷◌, refl, codes, 
 use Rattle.std.proofs.lemmas.List.{append_cancel_left}
 use Rattle.mass_units.specs.Spelling.{number_text, index_text}
 use Rattle.mass_units.proofs.SpellingLemmas.{number_text-avoids, number_text-injective, index_text-avoids, index_text-injective}
-use Rattle.hold_limits.specs.declared.parts.Item.{Item}
+use Rattle.hold_parts.specs.declared.parts.Item.{Item}
 use Rattle.problem_text.specs.Cuts.{Avoids}
 use Rattle.problem_text.specs.TaskText.{item_line, base_line, window_line, ideal_line, IsSpelledItem}
 use Rattle.problem_text.proofs.CutLemmas.{split_once_again}

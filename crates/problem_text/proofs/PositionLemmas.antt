@@ -4,10 +4,10 @@ use Rattle.std.proofs.lemmas.List.{append-nil, append_assoc}
 use Rattle.std.proofs.lemmas.List.Elements.{All-head, All-tail, All-cons, All-same, All-from_recursion}
 use Rattle.mass_units.specs.Spelling.{number_text, signed_text, IsSignedNumber}
 use Rattle.mass_units.proofs.SpellingLemmas.{number_text-avoids, signed_text-avoids, number_text-injective, signed_text-injective}
-use Rattle.hold_limits.specs.declared.lists.Fit.{Fit}
-use Rattle.hold_limits.specs.declared.parts.Position.{Position}
-use Rattle.hold_limits.specs.Spellings.{IsName}
-use Rattle.problem_text.specs.TaskText.{line_of, fit_words, position_word, position_line, HasItsKinds, IsSpelledPosition}
+use Rattle.hold_parts.specs.declared.lists.Fit.{Fit}
+use Rattle.hold_parts.specs.declared.parts.Position.{Position}
+use Rattle.hold_parts.specs.Spellings.{IsName}
+use Rattle.problem_text.specs.TaskText.{line_of, fit_words, position_word, position_line, NamesKindsUnlessBulk, IsSpelledPosition}
 use Rattle.problem_text.specs.Cuts.{Avoids, IsCutAt}
 use Rattle.problem_text.specs.WordRuns.{run_text, fit_text, IsSpelledFit}
 use Rattle.problem_text.proofs.CutLemmas.{cut_once, split_once_again}
@@ -45,7 +45,7 @@ pub fits_begin : (fits : List Fit) → IsCutAt 32 (run_text fit_text fits)
 fits_begin fits = run_text-begins fit_text IsSpelledFit fits_are_read fits
 
 -- the words of a line and the parts that they spell make a position line
-pub position_found : (line name compartment influence words : List ℕ) (bulk : Bool) (fits : List Fit) (q : Position) → line ≡ position_word bulk ++ 32 ∷ (name ++ 32 ∷ (compartment ++ 32 ∷ (influence ++ words))) → words ≡ run_text fit_text fits → All IsSpelledFit fits → (bulk ≡ q.bulk) × (name ≡ q.name) × IsName q.name × (compartment ≡ number_text q.compartment) × (q.compartment ≤ 9) × (influence ≡ signed_text q.influence) × IsSignedNumber q.influence × (q.fits ≡ fits) × HasItsKinds q.bulk q.fits → (line ≡ position_line q) × IsSpelledPosition q
+pub position_found : (line name compartment influence words : List ℕ) (bulk : Bool) (fits : List Fit) (q : Position) → line ≡ position_word bulk ++ 32 ∷ (name ++ 32 ∷ (compartment ++ 32 ∷ (influence ++ words))) → words ≡ run_text fit_text fits → All IsSpelledFit fits → (bulk ≡ q.bulk) × (name ≡ q.name) × IsName q.name × (compartment ≡ number_text q.compartment) × (q.compartment ≤ 9) × (influence ≡ signed_text q.influence) × IsSignedNumber q.influence × (q.fits ≡ fits) × NamesKindsUnlessBulk q.bulk q.fits → (line ≡ position_line q) × IsSpelledPosition q
 position_found line name compartment influence words bulk fits q e t spelled h =
     let same : line ≡ position_word q.bulk ++ 32 ∷ (q.name ++ 32 ∷ (number_text q.compartment ++ 32 ∷ (signed_text q.influence ++ run_text fit_text q.fits))) = rw (e, h.0, h.1, h.3, h.5, t, h.7) refl in
     let all : All IsSpelledFit q.fits = rw h.7 spelled in (
@@ -67,7 +67,7 @@ fits_avoid (f ∷ fits) p =
     let words = avoids-spaced 10 f.kind (number_text f.most.0) refl (kind_avoids 10 f.kind (lit< tt) here.kind) (number_text-avoids 10 f.most.0 (lit< tt)) in
     avoids-append 10 (fit_text f) (run_text fit_text fits) (All-cons (λ b. eqb b 10 ≡ false) 32 (f.kind ++ 32 ∷ number_text f.most.0) refl words) (fits_avoid fits (All-tail IsSpelledFit f fits p))
 
--- the first word holds neither a space nor the end of a line
+-- the first word contains neither a space nor the end of a line
 pub word_without_space : (bulk : Bool) → Avoids 32 (position_word bulk)
 word_without_space true = plain_word 32 (codes "bulk") refl
 word_without_space false = plain_word 32 (codes "position") refl

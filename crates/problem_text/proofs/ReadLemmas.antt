@@ -5,17 +5,17 @@ use Rattle.std.proofs.lemmas.List.Elements.{All-nil, All-same}
 use Rattle.mass_units.specs.Spelling.{IsIndex}
 use Rattle.hold_limits.specs.Problem.{Problem}
 use Rattle.hold_limits.specs.Layout.{layout_of}
-use Rattle.hold_limits.specs.declared.parts.Position.{Position}
+use Rattle.hold_parts.specs.declared.parts.Position.{Position}
 use Rattle.problem_text.specs.Cuts.{Avoids}
 use Rattle.problem_text.specs.TaskText.{task_lines, text_of, position_line, item_line, base_line, window_line, ideal_line, IsSpelledPosition, IsSpelledItem, IsSpelled, Spells}
 use Rattle.problem_text.specs.Refusals.{BeginTask, AreTask, IsRefused}
 use Rattle.problem_text.specs.Refusals.IsRefused.{wrong_line, more_bytes, early_end}
-use Rattle.problem_text.specs.Places.{keep_problem}
+use Rattle.problem_text.specs.PositionNumbers.{keep_problem}
 use Rattle.problem_text.specs.Sections.{IsSection, HasNoneAhead}
 use Rattle.problem_text.specs.Parts.{AreSections, problem_of_parts}
 use Rattle.problem_text.specs.Reading.{IsStopped, IsIndexLine, IsBandLine}
 use Rattle.problem_text.specs.Reading.IsStopped.{at_line, at_end}
-use Rattle.problem_text.specs.declared.parts.Indices.{Indices}
+use Rattle.hold_parts.specs.declared.parts.Indices.{Indices}
 use Rattle.problem_text.specs.declared.parts.Sections.{Sections}
 use Rattle.problem_text.specs.declared.parts.Parts.{Parts}
 use Rattle.problem_text.specs.declared.fault.TextFault.{TextFault}
@@ -24,9 +24,9 @@ use Rattle.problem_text.proofs.SectionLemmas.{text_of-append}
 use Rattle.problem_text.proofs.PositionLemmas.{position_avoids}
 use Rattle.problem_text.proofs.LimitLemmas.{exclude_avoids, combined_avoids, cumulative_avoids, loose_avoids}
 use Rattle.problem_text.proofs.LineLemmas.{item_avoids}
-use Rattle.problem_text.proofs.TaskLemmas.{front, front-nested, last, rest_of, behind_items, behind_cumulative, behind_combined, behind_excludes, behind_positions, Stops, StopsAll, clear_names, sections_once, stops_last}
+use Rattle.problem_text.proofs.TaskLemmas.{front, front-nested, last, rest_of, after_items, after_cumulative, after_combined, after_excludes, after_positions, Stops, StopsAll, clear_names, sections_once, stops_last}
 
--- ---- a place in a text: the lines before it, and the number of the next line
+-- ---- a point in a text: the lines before it, and the number of the next line
 
 pub record IsAt (text : List ℕ) (lines : List (List ℕ)) (rest : List ℕ) (number : ℕ) : Type 0 where
   pub is : text ≡ text_of lines ++ rest
@@ -97,8 +97,8 @@ task_of text rest next ps got r at = record {
 abbrev positions_as_got : (text rest : List ℕ) (next : ℕ) (ps : List Position) (got : Sections) (r : IsReadTo text rest next ps got) → IsSection position_line IsSpelledPosition (λ q. q) r.start r.behind r.first r.second ps
 positions_as_got text rest next ps got r = as_got position_line IsSpelledPosition r.start r.behind r.first r.second ps r.positions
 
-abbrev items_as_got : (text rest : List ℕ) (next : ℕ) (ps : List Position) (got : Sections) (r : IsReadTo text rest next ps got) → IsSection item_line IsSpelledItem (λ x. x) r.sections.behind_cumulative r.sections.behind_items r.sections.cumulative_end r.sections.items_end got.items.items
-items_as_got text rest next ps got r = as_got item_line IsSpelledItem r.sections.behind_cumulative r.sections.behind_items r.sections.cumulative_end r.sections.items_end got.items.items r.sections.items
+abbrev items_as_got : (text rest : List ℕ) (next : ℕ) (ps : List Position) (got : Sections) (r : IsReadTo text rest next ps got) → IsSection item_line IsSpelledItem (λ x. x) r.sections.after_cumulative r.sections.after_items r.sections.cumulative_end r.sections.items_end got.items.items
+items_as_got text rest next ps got r = as_got item_line IsSpelledItem r.sections.after_cumulative r.sections.after_items r.sections.cumulative_end r.sections.items_end got.items.items r.sections.items
 
 pub spelled_task : (text rest : List ℕ) (next : ℕ) (ps : List Position) (got : Sections) (r : IsReadTo text rest next ps got) (at : Indices) → AreIndices at → IsSpelled (task_of text rest next ps got r at)
 spelled_task text rest next ps got r at s = record {
@@ -135,7 +135,7 @@ kept_task text rest next ps got r parts positions sections =
       ideal_high = parts.indices.ideal.high.0;
     }
 
--- the place behind the sections
+-- the point after the sections
 pub at_front : (text rest : List ℕ) (next : ℕ) (ps : List Position) (got : Sections) (r : IsReadTo text rest next ps got) (at : Indices) → IsAt text (front (task_of text rest next ps got r at)) rest next
 at_front text rest next ps got r at =
     let s = r.sections in
@@ -171,25 +171,25 @@ stops_read text rest next ps got r at lines first =
     let items = items_as_got text rest next ps got r in
     let t = rest_of (task_of text rest next ps got r at) in
     let clear = clear_names 10 ps (lit< tt) positions.right in
-    let ahead4 : HasFirst s.behind_items (behind_items ps t lines) = first_of_section _ s.loose.said lines s.behind_items rest s.loose.read first in
-    let ahead3 : HasFirst s.behind_cumulative (behind_cumulative ps t lines) = first_of_section item_line got.items.items (behind_items ps t lines) s.behind_cumulative s.behind_items items.read ahead4 in
-    let ahead2 : HasFirst s.behind_combined (behind_combined ps t lines) = first_of_section _ s.cumulative.said (behind_cumulative ps t lines) s.behind_combined s.behind_cumulative s.cumulative.read ahead3 in
-    let ahead1 : HasFirst s.behind_excludes (behind_excludes ps t lines) = first_of_section _ s.combined.said (behind_combined ps t lines) s.behind_excludes s.behind_combined s.combined.read ahead2 in
-    let ahead0 : HasFirst r.behind (behind_positions ps t lines) = first_of_section _ s.excludes.said (behind_excludes ps t lines) r.behind s.behind_excludes s.excludes.read ahead1 in
+    let ahead4 : HasFirst s.after_items (after_items ps t lines) = first_of_section _ s.loose.said lines s.after_items rest s.loose.read first in
+    let ahead3 : HasFirst s.after_cumulative (after_cumulative ps t lines) = first_of_section item_line got.items.items (after_items ps t lines) s.after_cumulative s.after_items items.read ahead4 in
+    let ahead2 : HasFirst s.after_combined (after_combined ps t lines) = first_of_section _ s.cumulative.said (after_cumulative ps t lines) s.after_combined s.after_cumulative s.cumulative.read ahead3 in
+    let ahead1 : HasFirst s.after_excludes (after_excludes ps t lines) = first_of_section _ s.combined.said (after_combined ps t lines) s.after_excludes s.after_combined s.combined.read ahead2 in
+    let ahead0 : HasFirst r.behind (after_positions ps t lines) = first_of_section _ s.excludes.said (after_excludes ps t lines) r.behind s.after_excludes s.excludes.read ahead1 in
     record {
       positions = stops_from _ _ position_avoids r.behind _ positions.stops ahead0;
       rest = record {
-        excludes = stops_from _ _ (exclude_avoids ps clear) s.behind_excludes _ s.excludes.stops ahead1;
-        combined = stops_from _ _ (combined_avoids ps clear) s.behind_combined _ s.combined.stops ahead2;
-        cumulative = stops_from _ _ (cumulative_avoids ps clear) s.behind_cumulative _ s.cumulative.stops ahead3;
-        items = stops_from _ _ item_avoids s.behind_items _ items.stops ahead4;
+        excludes = stops_from _ _ (exclude_avoids ps clear) s.after_excludes _ s.excludes.stops ahead1;
+        combined = stops_from _ _ (combined_avoids ps clear) s.after_combined _ s.combined.stops ahead2;
+        cumulative = stops_from _ _ (cumulative_avoids ps clear) s.after_cumulative _ s.cumulative.stops ahead3;
+        items = stops_from _ _ item_avoids s.after_items _ items.stops ahead4;
         loose = stops_from _ _ (loose_avoids ps clear) rest _ s.loose.stops first;
       };
     }
 
 -- ---- what may follow the sections
 
--- lines of the text that go on behind its sections, and begin a task, are the last lines of that task
+-- lines of the text that go on after its sections, and begin a task, are the last lines of that task
 last_lines : (text rest : List ℕ) (next : ℕ) (ps : List Position) (got : Sections) (r : IsReadTo text rest next ps got) (at : Indices) → AreIndices at → (lines : List (List ℕ)) → HasFirst rest lines → (t : Problem) → IsSpelled t → task_lines t ≡ front (task_of text rest next ps got r at) ++ lines → lines ≡ last t
 last_lines text rest next ps got r at s lines first t spelled e =
     let stop = stops_read text rest next ps got r at lines first in
@@ -208,7 +208,7 @@ first_of_done : (done : List (List ℕ)) (line : List ℕ) (more : List (List �
 first_of_done [] line more text rest after e g = first_of_text line [] more text after (e ∙ g ∙ sym (append_assoc line (10 ∷ []) after))
 first_of_done (d ∷ done) line more text rest after e g = first_of_text d done (done ++ line ∷ more) text rest e
 
--- a line behind them that goes on with a task is the next of its last lines
+-- a line after them that goes on with a task is the next of its last lines
 pub next_lines : (text rest : List ℕ) (next : ℕ) (ps : List Position) (got : Sections) (r : IsReadTo text rest next ps got) (at : Indices) → AreIndices at → (done : List (List ℕ)) (behind line after : List ℕ) → rest ≡ text_of done ++ behind → behind ≡ line ++ 10 ∷ after → BeginTask ((front (task_of text rest next ps got r at) ++ done) ++ line ∷ []) → (t : Problem) × IsSpelled t × (more : List (List ℕ)) × (done ++ line ∷ more ≡ last t)
 next_lines text rest next ps got r at s done behind line after e g b =
     let front_lines = front (task_of text rest next ps got r at) in
@@ -232,19 +232,19 @@ refused_here text lines rest number P _ at b right more (at_line line after e cl
     subst At (sym at.count) (wrong_line lines line after (at.is ∙ ap (λ t. text_of lines ++ t) e) clear b (λ b'. wrong (right line after e b')))
 refused_here text lines rest number P _ at b right more (at_end clear) = early_end lines rest at.is clear b more
 
--- a place among the last lines of a task: `done` stands between the sections and it
+-- a point among the last lines of a task: `done` are the lines between the sections and it
 pub record IsBehind (text : List ℕ) (lines done : List (List ℕ)) (rest behind : List ℕ) (number : ℕ) : Type 0 where
   pub place : IsAt text (lines ++ done) behind number
   pub tail : rest ≡ text_of done ++ behind
 
-pub behind_sections : (text : List ℕ) (lines : List (List ℕ)) (rest : List ℕ) (number : ℕ) → IsAt text lines rest number → IsBehind text lines [] rest rest number
-behind_sections text lines rest number at = record {
+pub after_sections : (text : List ℕ) (lines : List (List ℕ)) (rest : List ℕ) (number : ℕ) → IsAt text lines rest number → IsBehind text lines [] rest rest number
+after_sections text lines rest number at = record {
   place = let At : List (List ℕ) → Type 0 = λ xs. IsAt text xs rest number in subst At (sym (append-nil lines)) at;
   tail = refl;
 }
 
-pub behind_line : (text : List ℕ) (lines done : List (List ℕ)) (line rest before after : List ℕ) (number next : ℕ) → IsBehind text lines done rest before number → before ≡ line ++ 10 ∷ after → next ≡ number + 1 → IsBehind text lines (done ++ line ∷ []) rest after next
-behind_line text lines done line rest before after number next b e counted = record {
+pub after_line : (text : List ℕ) (lines done : List (List ℕ)) (line rest before after : List ℕ) (number next : ℕ) → IsBehind text lines done rest before number → before ≡ line ++ 10 ∷ after → next ≡ number + 1 → IsBehind text lines (done ++ line ∷ []) rest after next
+after_line text lines done line rest before after number next b e counted = record {
   place = let At : List (List ℕ) → Type 0 = λ xs. IsAt text xs after next in subst At (append_assoc lines done (line ∷ [])) (one_line text (lines ++ done) line before after number next b.place e counted);
   tail = b.tail ∙ ap (λ t. text_of done ++ t) (e ∙ sym (append_assoc line (10 ∷ []) after)) ∙ sym (append_assoc (text_of done) (line ++ 10 ∷ []) after) ∙ ap (λ t. t ++ after) (sym (text_of-append done (line ∷ [])));
 }
@@ -267,7 +267,7 @@ pub refused_header : (text : List ℕ) (number : ℕ) (fault : TextFault) → nu
 refused_header text number fault one stopped =
     let t : Problem = record { hold = layout_of [] [] [] []; items = []; loose = []; base = pos 0; low = pos 0; high = pos 0; ideal_low = pos 0; ideal_high = pos 0 } in
     let spelled : IsSpelled t = record { positions = All-nil _; excludes = All-nil _; combined = All-nil _; cumulative = All-nil _; items = All-nil _; loose = All-nil _; base = lit≤ tt; low = lit≤ tt; high = lit≤ tt; ideal_low = lit≤ tt; ideal_high = lit≤ tt } in
-    let head : (t : Problem) → task_lines t ≡ codes "TASK 1" ∷ (map position_line t.hold.positions ++ behind_positions t.hold.positions (rest_of t) (last t)) = λ t. front-nested t (last t) in
+    let head : (t : Problem) → task_lines t ≡ codes "TASK 1" ∷ (map position_line t.hold.positions ++ after_positions t.hold.positions (rest_of t) (last t)) = λ t. front-nested t (last t) in
     refused_here text [] text number (λ line. line ≡ codes "TASK 1") fault (record { is = refl; count = one }) (record { t = t; spelled = spelled; begins = (task_lines t, refl) }) (λ line after e b. let first = sym (head b.t) ∙ b.begins.1 in cc) (λ a. let none = a.are ∙ head a.t in absurd (cc)) stopped
 
 pub refused_base : (text rest : List ℕ) (next : ℕ) (ps : List Position) (got : Sections) → IsReadTo text rest next ps got → (fault : TextFault) → IsStopped rest next (IsIndexLine (codes "base ")) fault → IsRefused text fault
@@ -275,15 +275,15 @@ refused_base text rest next ps got r fault stopped =
     let at = indices_of (pos 0) (pos 0) (pos 0) (pos 0) (pos 0) in
     let right : AreIndices at = record { base = lit≤ tt; low = lit≤ tt; high = lit≤ tt; ideal_low = lit≤ tt; ideal_high = lit≤ tt } in
     let t = task_of text rest next ps got r at in
-    refused_last text rest next ps got r at right [] (last t) rest next (IsIndexLine (codes "base ")) fault (behind_sections text (front t) rest next (at_front text rest next ps got r at)) refl (λ e. absurd (omega arith)) (λ t' s line other e. (t'.base, s.base, cc)) stopped
+    refused_last text rest next ps got r at right [] (last t) rest next (IsIndexLine (codes "base ")) fault (after_sections text (front t) rest next (at_front text rest next ps got r at)) refl (λ e. absurd (omega arith)) (λ t' s line other e. (t'.base, s.base, cc)) stopped
 
 pub refused_window : (text rest : List ℕ) (next : ℕ) (ps : List Position) (got : Sections) → IsReadTo text rest next ps got → (base : ℤ) (behind : List ℕ) (number : ℕ) (fault : TextFault) → IsIndex base → rest ≡ base_line base ++ 10 ∷ behind → number ≡ next + 1 → IsStopped behind number (IsBandLine (codes "window ")) fault → IsRefused text fault
 refused_window text rest next ps got r base behind number fault is e counted stopped =
     let at = indices_of base (pos 0) (pos 0) (pos 0) (pos 0) in
     let right : AreIndices at = record { base = is; low = lit≤ tt; high = lit≤ tt; ideal_low = lit≤ tt; ideal_high = lit≤ tt } in
     let t = task_of text rest next ps got r at in
-    let start = behind_sections text (front t) rest next (at_front text rest next ps got r at) in
-    let here = behind_line text (front t) [] (base_line base) rest rest behind next number start e counted in
+    let start = after_sections text (front t) rest next (at_front text rest next ps got r at) in
+    let here = after_line text (front t) [] (base_line base) rest rest behind next number start e counted in
     refused_last text rest next ps got r at right (base_line base ∷ []) _ behind number (IsBandLine (codes "window ")) fault here refl (λ e. absurd (omega arith)) (λ t' s line other e. (t'.low, t'.high, s.low, s.high, cc)) stopped
 
 pub refused_ideal : (text rest : List ℕ) (next : ℕ) (ps : List Position) (got : Sections) → IsReadTo text rest next ps got → (base low high : ℤ) (second behind : List ℕ) (n number : ℕ) (fault : TextFault) → IsIndex base → IsIndex low → IsIndex high → rest ≡ base_line base ++ 10 ∷ second → n ≡ next + 1 → second ≡ window_line low high ++ 10 ∷ behind → number ≡ n + 1 → IsStopped behind number (IsBandLine (codes "ideal ")) fault → IsRefused text fault
@@ -291,9 +291,9 @@ refused_ideal text rest next ps got r base low high second behind n number fault
     let at = indices_of base low high (pos 0) (pos 0) in
     let right : AreIndices at = record { base = is_base; low = is_low; high = is_high; ideal_low = lit≤ tt; ideal_high = lit≤ tt } in
     let t = task_of text rest next ps got r at in
-    let start = behind_sections text (front t) rest next (at_front text rest next ps got r at) in
-    let one = behind_line text (front t) [] (base_line base) rest rest second next n start e count in
-    let two = behind_line text (front t) (base_line base ∷ []) (window_line low high) rest second behind n number one e' count' in
+    let start = after_sections text (front t) rest next (at_front text rest next ps got r at) in
+    let one = after_line text (front t) [] (base_line base) rest rest second next n start e count in
+    let two = after_line text (front t) (base_line base ∷ []) (window_line low high) rest second behind n number one e' count' in
     refused_last text rest next ps got r at right (base_line base ∷ window_line low high ∷ []) _ behind number (IsBandLine (codes "ideal ")) fault two refl (λ e. absurd (omega arith)) (λ t' s line other e. (t'.ideal_low, t'.ideal_high, s.ideal_low, s.ideal_high, cc)) stopped
 
 -- the text is read up to its last line
@@ -306,12 +306,12 @@ read_to_end text rest next ps got r at second third behind n m number right e co
     let lines = front (task_of text rest next ps got r at) in
     let base = base_line at.base.0 in
     let window = window_line at.window.low.0 at.window.high.0 in
-    let start = behind_sections text lines rest next (at_front text rest next ps got r at) in
-    let one = behind_line text lines [] base rest rest second next n start e count in
-    let two = behind_line text lines (base ∷ []) window rest second third n m one e' count' in
+    let start = after_sections text lines rest next (at_front text rest next ps got r at) in
+    let one = after_line text lines [] base rest rest second next n start e count in
+    let two = after_line text lines (base ∷ []) window rest second third n m one e' count' in
     record {
       right = right;
-      place = behind_line text lines (base ∷ window ∷ []) (ideal_line at.ideal.low.0 at.ideal.high.0) rest third behind m number two e'' count'';
+      place = after_line text lines (base ∷ window ∷ []) (ideal_line at.ideal.low.0 at.ideal.high.0) rest third behind m number two e'' count'';
     }
 
 pub refused_end : (text rest : List ℕ) (next : ℕ) (ps : List Position) (got : Sections) (r : IsReadTo text rest next ps got) (at : Indices) (behind : List ℕ) (number : ℕ) (fault : TextFault) → IsReadToEnd text rest next ps got r at behind number → IsStopped behind number (λ line. line ≡ codes "END") fault → IsRefused text fault
@@ -321,11 +321,11 @@ refused_end text rest next ps got r at behind number fault end stopped =
 -- all lines are read
 pub all_read : (text rest : List ℕ) (next : ℕ) (ps : List Position) (got : Sections) (r : IsReadTo text rest next ps got) (at : Indices) (behind after : List ℕ) (number last_number : ℕ) → IsReadToEnd text rest next ps got r at behind number → behind ≡ codes "END" ++ 10 ∷ after → last_number ≡ number + 1 → IsAt text (task_lines (task_of text rest next ps got r at)) after last_number
 all_read text rest next ps got r at behind after number last_number end e counted =
-    (behind_line text (front (task_of text rest next ps got r at)) _ (codes "END") rest behind after number last_number end.place e counted).place
+    (after_line text (front (task_of text rest next ps got r at)) _ (codes "END") rest behind after number last_number end.place e counted).place
 
-pub refused_behind : (text after : List ℕ) (number : ℕ) (t : Problem) → IsSpelled t → IsAt text (task_lines t) after number → (length after ≡ 0 → ⊥) → IsRefused text (Line number)
-refused_behind text [] number t s at some = absurd (some refl)
-refused_behind text (byte ∷ after) number t s at some =
+pub refused_after : (text after : List ℕ) (number : ℕ) (t : Problem) → IsSpelled t → IsAt text (task_lines t) after number → (length after ≡ 0 → ⊥) → IsRefused text (Line number)
+refused_after text [] number t s at some = absurd (some refl)
+refused_after text (byte ∷ after) number t s at some =
     let At : ℕ → Type 0 = λ n. IsRefused text (Line n) in
     subst At (sym at.count) (more_bytes (task_lines t) byte after at.is (record { t = t; spelled = s; are = refl }))
 

@@ -1,4 +1,4 @@
--- each text has one answer
+-- each text has at most one answer
 use Rattle.std.proofs.Common.{◌≡◌, ◌≢◌, ⊎_elim, ◌⊎◌, inl, inr, ℕ, ◌+◌, eqb, false, ◌++◌, ◌∷◌, List, [], length, map, refl, sym, ◌∙◌, ap, subst, All, codes, Some, None, lit<}
 use Rattle.std.proofs.lemmas.Option.{none-some, same_Some}
 use Rattle.std.proofs.lemmas.List.{append_assoc, append-nil}
@@ -20,7 +20,7 @@ use Rattle.problem_text.proofs.LimitLemmas.{exclude_avoids, combined_avoids, cum
 use Rattle.problem_text.proofs.LineLemmas.{item_avoids, base_avoids, window_avoids, ideal_avoids}
 use Rattle.problem_text.proofs.TaskLemmas.{front, last, clear_names, task_once}
 
--- ---- no line of a task holds the end of a line
+-- ---- no line of a task contains the end of a line
 
 abbrev AreLines : List (List ℕ) → Type 0
 AreLines lines = All (Avoids 10) lines
@@ -87,7 +87,7 @@ record Longest (text : List ℕ) (lines : List (List ℕ)) (rest : List ℕ) : T
   begin : BeginTask lines
   end : (line after : List ℕ) → rest ≡ line ++ 10 ∷ after → BeginTask (lines ++ line ∷ []) → ⊥
 
--- a line more cannot be
+-- there cannot be one more line
 goes_on : (text : List ℕ) (xs zs : List (List ℕ)) (rest other : List ℕ) → Longest text xs rest → BeginTask (xs ++ zs) → rest ≡ text_of zs ++ other → zs ≡ []
 goes_on text xs [] rest other a b e = refl
 goes_on text xs (z ∷ zs) rest other a b e = absurd (a.end z (text_of zs ++ other) (e ∙ append_assoc z (10 ∷ text_of zs) other) (fewer_begin (xs ++ z ∷ []) zs (subst BeginTask (sym (append_assoc xs (z ∷ []) zs)) b)))

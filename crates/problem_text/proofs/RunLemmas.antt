@@ -25,7 +25,7 @@ pub run_text-begins : {X : Type 0} (text : X → List ℕ) (IsRight : X → Type
 run_text-begins text P words [] = tt
 run_text-begins text P words (x ∷ xs) = words.begins x (run_text text xs)
 
--- what was read is the front of each list that the text spells
+-- what was read is a prefix of each list that the text spells
 pub run_again : {X : Type 0} (text : X → List ℕ) (IsRight : X → Type 0) → AreRead text IsRight → (done xs : List X) (rest : List ℕ) → All IsRight done → All IsRight xs → IsCutAt 32 rest → run_text text done ++ rest ≡ run_text text xs → (more : List X) × (xs ≡ done ++ more) × (rest ≡ run_text text more) × All IsRight more
 run_again text P words [] xs rest p q cut e = (xs, refl, e, q)
 run_again text P words (x ∷ done) [] rest p q cut e = absurd (omega (arith, words.some x, ap length e, length-append (text x) (run_text text done), length-append (text x ++ run_text text done) rest))
@@ -35,7 +35,7 @@ run_again text P words (x ∷ done) (y ∷ xs) rest p q cut e =
     let again = run_again text P words done xs rest (All-tail P x done p) (All-tail P y xs q) cut one.1 in
     (again.0, (let first : x ≡ y = one.0 in let others : xs ≡ done ++ again.0 = again.1 in cc), again.2, again.3)
 
--- where words are left and no entry stands in front of them, the text spells no list
+-- where words are left and no entry is first among them, the text spells no list
 pub no_more : {X : Type 0} (text : X → List ℕ) (IsRight : X → Type 0) → AreRead text IsRight → (more : List X) (rest : List ℕ) → All IsRight more → rest ≡ run_text text more → (length rest ≡ 0 → ⊥) → ((x : X) (r : List ℕ) → IsRight x → IsCutAt 32 r → rest ≡ text x ++ r → ⊥) → ⊥
 no_more text P words [] rest p e some none = some (ap length e)
 no_more text P words (x ∷ more) rest p e some none = none x (run_text text more) (All-head P x more p) (run_text-begins text P words more) e

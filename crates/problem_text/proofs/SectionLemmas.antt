@@ -1,12 +1,13 @@
 -- lines as a text
-use Rattle.std.proofs.Common.{◌≡◌, ℕ, ◌++◌, ◌∷◌, List, [], map, refl, sym, ◌∙◌, ap}
+use Rattle.std.proofs.Common.{◌≡◌, ℕ, ◌++◌, ◌∷◌, List, [], Option, Some, None, IfNone, IfErr, map, refl, sym, ◌∙◌, ap}
+use Rattle.std.specs.Option.{ok_or}
 use Rattle.std.proofs.lemmas.List.{append_assoc}
 use Rattle.problem_text.specs.TaskText.{text_of}
 use Rattle.problem_text.specs.Cuts.{Avoids}
 use Rattle.problem_text.specs.Reading.{IsStopped}
-use Rattle.problem_text.specs.Reading.IsStopped.{at_end}
+use Rattle.problem_text.specs.Reading.IsStopped.{at_line, at_end}
 use Rattle.problem_text.specs.declared.fault.TextFault.{TextFault}
-use Rattle.problem_text.specs.declared.fault.TextFault.TheVariants.{NoEnd}
+use Rattle.problem_text.specs.declared.fault.TextFault.TheVariants.{Line, NoEnd}
 
 pub map-push : {X Y : Type 0} (f : X → Y) (xs : List X) (x : X) → map f (xs ++ x ∷ []) ≡ map f xs ++ f x ∷ []
 map-push f [] x = refl
@@ -23,3 +24,8 @@ text_of-push line (y ∷ xs) x rest = append_assoc (line y) (10 ∷ text_of (map
 
 pub stopped_early : (rest : List ℕ) (number : ℕ) (IsRight : List ℕ → Type 0) (fault : TextFault) → (fault ≡ NoEnd) × Avoids 10 rest → IsStopped rest number IsRight fault
 stopped_early rest number IsRight fault h = rw h.0 (at_end h.1)
+
+-- a line from which nothing is read stops the reader
+pub stopped_at_line : {X : Type 0} (rest : List ℕ) (number : ℕ) (IsRight : List ℕ → Type 0) (line after : List ℕ) (read : Option X) → rest ≡ line ++ 10 ∷ after → Avoids 10 line → IfNone read (IsRight line → ⊥) → IfErr (ok_or read (Line number)) (IsStopped rest number IsRight)
+stopped_at_line rest number IsRight line after (Some x) e clear none = tt
+stopped_at_line rest number IsRight line after None e clear none = at_line line after e clear none

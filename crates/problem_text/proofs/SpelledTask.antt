@@ -6,16 +6,16 @@ use Rattle.std.proofs.lemmas.Option.{slice_get-get_or}
 use Rattle.std.specs.Option.{option_map_or}
 use Rattle.std.specs.Prelude.{All, AllPairs, slice_get}
 use Rattle.mass_units.specs.Spelling.{IsNumber, IsSignedNumber, IsIndex}
-use Rattle.hold_limits.specs.declared.lists.Fit.{Fit}
-use Rattle.hold_limits.specs.declared.parts.Position.{Position}
-use Rattle.hold_limits.specs.declared.parts.Item.{Item}
+use Rattle.hold_parts.specs.declared.lists.Fit.{Fit}
+use Rattle.hold_parts.specs.declared.parts.Position.{Position}
+use Rattle.hold_parts.specs.declared.parts.Item.{Item}
 use Rattle.hold_limits.specs.Problem.{Problem}
-use Rattle.hold_limits.specs.Spellings.{IsName, IsUldId}
+use Rattle.hold_parts.specs.Spellings.{IsName, IsUldId}
 use Rattle.hold_limits.specs.Faults.{IsLawful}
-use Rattle.hold_limits.specs.Bounds.{HoldBounds, LawfulBounds}
-use Rattle.hold_limits.specs.Bounds as bounds
+use Rattle.hold_limits.specs.Bounds.{HasUpTo16Kinds, IsContainerMass}
 use Rattle.hold_limits.proofs.LawfulBounds.{hold-bounds, lawful-bounds}
-use Rattle.problem_text.specs.TaskText.{name_at, HasItsKinds, IsNamed, IsSpelled}
+use Rattle.problem_text.specs.TaskText.{NamesKindsUnlessBulk, IsNamed, IsSpelled}
+use Rattle.hold_limits.specs.Layout.{name_at}
 
 nine_digits : (n : ℕ) → n ≤ 999999999 → n < 10 ^ 9
 nine_digits n most = omega arith
@@ -29,7 +29,7 @@ signed-small z most = omega arith
 index-right : (z : ℤ) → unsigned_abs z ≤ 1000000000 → IsIndex z
 index-right z most = omega arith
 
-kinds-right : (bulk : Bool) (fits : List Fit) → bounds.HasItsKinds bulk fits → HasItsKinds bulk fits
+kinds-right : (bulk : Bool) (fits : List Fit) → HasUpTo16Kinds bulk fits → NamesKindsUnlessBulk bulk fits
 kinds-right true fits right = right
 kinds-right false fits right = right.0
 
@@ -40,7 +40,7 @@ first_named ps differ q known = record {
   first = λ k d within same.
       let before : k < q = omega (arith, length-take q ps) in
       let there : slice_get ps q ≡ Some (get_or ps q d) = slice_get-get_or ps q d known in
-      let name : name_at ps q ≡ (get_or ps q d).name = ap (λ o. option_map_or (λ (place : Position). place.name) o []) there in
+      let name : name_at ps q ≡ (get_or ps q d).name = ap (λ o. option_map_or (λ (p : Position). p.name) o []) there in
       let earlier : get_or (take q ps) k d ≡ get_or ps k d = get_or-take q ps k d before in
       differ k q d before known (sym (ap (λ (p : Position). p.name) earlier) ∙ same ∙ name);
 }
@@ -59,7 +59,7 @@ lawful-spelled t lawful names ids =
         influence = signed-small (get_or ps k d).influence (of_hold.influences k d within);
         some = kinds-right _ _ (of_hold.kinds k d within);
         kinds = spelled.kinds k d within;
-        masses = All-weaker (λ (fit : Fit). (1 ≤ fit.most.0) × (fit.most.0 ≤ 20000)) (λ (fit : Fit). IsNumber fit.most.0) (λ fit right. number-small fit.most.0 right.1) (get_or ps k d).fits (of_hold.masses k d within);
+        masses = All-weaker IsContainerMass (λ (fit : Fit). IsNumber fit.most.0) (λ fit right. number-small fit.most.0 right.1) (get_or ps k d).fits (of_hold.masses k d within);
       };
       excludes = λ k d within. let known = of_hold.excludes k d within in (named _ known.0, named _ known.1);
       combined = λ k d within. let limit = of_hold.combined k d within in record {

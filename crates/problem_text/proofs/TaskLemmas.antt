@@ -3,11 +3,11 @@ use Rattle.std.proofs.Common.{◌≡◌, ℕ, ◌<◌, Bool, true, false, cond, 
 use Rattle.std.proofs.lemmas.List.{append_assoc, append_cancel_left}
 use Rattle.std.proofs.lemmas.List.Elements.{All-head, All-tail, All-weaker}
 use Rattle.hold_limits.specs.Problem.{Problem}
-use Rattle.hold_limits.specs.declared.parts.Position.{Position}
-use Rattle.hold_limits.specs.declared.parts.Combined.{Combined}
-use Rattle.hold_limits.specs.declared.parts.Cumulative.{Cumulative}
-use Rattle.hold_limits.specs.declared.parts.Item.{Item}
-use Rattle.hold_limits.specs.declared.parts.Loose.{Loose}
+use Rattle.hold_parts.specs.declared.parts.Position.{Position}
+use Rattle.hold_parts.specs.declared.parts.Combined.{Combined}
+use Rattle.hold_parts.specs.declared.parts.Cumulative.{Cumulative}
+use Rattle.hold_parts.specs.declared.parts.Item.{Item}
+use Rattle.hold_parts.specs.declared.parts.Loose.{Loose}
 use Rattle.problem_text.specs.TaskText.{task_lines, position_line, position_word, exclude_line, combined_line, cumulative_line, item_line, loose_line, base_line, window_line, ideal_line, IsSpelledPosition, IsSpelledExclude, IsSpelledCombined, IsSpelledCumulative, IsSpelledItem, IsSpelledLoose, IsSpelled}
 use Rattle.problem_text.specs.Cuts.{Avoids}
 use Rattle.problem_text.proofs.WordLemmas.{name_avoids}
@@ -30,7 +30,7 @@ front t =
 abbrev pub last : Problem → List (List ℕ)
 last t = base_line t.base ∷ window_line t.low t.high ∷ ideal_line t.ideal_low t.ideal_high ∷ codes "END" ∷ []
 
--- the sections behind the positions
+-- the sections after the positions
 pub record Rest : Type 0 where
   pub excludes : List (ℕ × ℕ)
   pub combined : List Combined
@@ -41,22 +41,22 @@ pub record Rest : Type 0 where
 abbrev pub rest_of : Problem → Rest
 rest_of t = record { excludes = t.hold.excludes; combined = t.hold.combined; cumulative = t.hold.cumulative; items = t.items; loose = t.loose }
 
-abbrev pub behind_items : List Position → Rest → List (List ℕ) → List (List ℕ)
-behind_items ps r lines = map (loose_line ps) r.loose ++ lines
+abbrev pub after_items : List Position → Rest → List (List ℕ) → List (List ℕ)
+after_items ps r lines = map (loose_line ps) r.loose ++ lines
 
-abbrev pub behind_cumulative : List Position → Rest → List (List ℕ) → List (List ℕ)
-behind_cumulative ps r lines = map item_line r.items ++ behind_items ps r lines
+abbrev pub after_cumulative : List Position → Rest → List (List ℕ) → List (List ℕ)
+after_cumulative ps r lines = map item_line r.items ++ after_items ps r lines
 
-abbrev pub behind_combined : List Position → Rest → List (List ℕ) → List (List ℕ)
-behind_combined ps r lines = map (cumulative_line ps) r.cumulative ++ behind_cumulative ps r lines
+abbrev pub after_combined : List Position → Rest → List (List ℕ) → List (List ℕ)
+after_combined ps r lines = map (cumulative_line ps) r.cumulative ++ after_cumulative ps r lines
 
-abbrev pub behind_excludes : List Position → Rest → List (List ℕ) → List (List ℕ)
-behind_excludes ps r lines = map (combined_line ps) r.combined ++ behind_combined ps r lines
+abbrev pub after_excludes : List Position → Rest → List (List ℕ) → List (List ℕ)
+after_excludes ps r lines = map (combined_line ps) r.combined ++ after_combined ps r lines
 
-abbrev pub behind_positions : List Position → Rest → List (List ℕ) → List (List ℕ)
-behind_positions ps r lines = map (exclude_line ps) r.excludes ++ behind_excludes ps r lines
+abbrev pub after_positions : List Position → Rest → List (List ℕ) → List (List ℕ)
+after_positions ps r lines = map (exclude_line ps) r.excludes ++ after_excludes ps r lines
 
-pub front-nested : (t : Problem) (lines : List (List ℕ)) → front t ++ lines ≡ codes "TASK 1" ∷ (map position_line t.hold.positions ++ behind_positions t.hold.positions (rest_of t) lines)
+pub front-nested : (t : Problem) (lines : List (List ℕ)) → front t ++ lines ≡ codes "TASK 1" ∷ (map position_line t.hold.positions ++ after_positions t.hold.positions (rest_of t) lines)
 front-nested t lines = simp append_assoc
 
 -- ---- a section ends where a line is none of its kind
@@ -77,14 +77,14 @@ section_once line P once (x ∷ xs) (y ∷ ys) lines other p q stop stop' e =
 
 -- no section's kind of line comes next behind that section
 pub record StopsRest (ps : List Position) (r : Rest) (lines : List (List ℕ)) : Type 0 where
-  pub excludes : Stops (exclude_line ps) (IsSpelledExclude ps) (behind_excludes ps r lines)
-  pub combined : Stops (combined_line ps) (IsSpelledCombined ps) (behind_combined ps r lines)
-  pub cumulative : Stops (cumulative_line ps) (IsSpelledCumulative ps) (behind_cumulative ps r lines)
-  pub items : Stops item_line IsSpelledItem (behind_items ps r lines)
+  pub excludes : Stops (exclude_line ps) (IsSpelledExclude ps) (after_excludes ps r lines)
+  pub combined : Stops (combined_line ps) (IsSpelledCombined ps) (after_combined ps r lines)
+  pub cumulative : Stops (cumulative_line ps) (IsSpelledCumulative ps) (after_cumulative ps r lines)
+  pub items : Stops item_line IsSpelledItem (after_items ps r lines)
   pub loose : Stops (loose_line ps) (IsSpelledLoose ps) lines
 
 pub record StopsAll (ps : List Position) (r : Rest) (lines : List (List ℕ)) : Type 0 where
-  pub positions : Stops position_line IsSpelledPosition (behind_positions ps r lines)
+  pub positions : Stops position_line IsSpelledPosition (after_positions ps r lines)
   pub rest : StopsRest ps r lines
 
 pub record IsRightRest (ps : List Position) (r : Rest) : Type 0 where
@@ -97,12 +97,12 @@ pub record IsRightRest (ps : List Position) (r : Rest) : Type 0 where
 pub right_rest : (t : Problem) → IsSpelled t → IsRightRest t.hold.positions (rest_of t)
 right_rest t s = record { excludes = s.excludes; combined = s.combined; cumulative = s.cumulative; items = s.items; loose = s.loose }
 
-rest_once : (ps : List Position) → AreClear 32 ps → (a b : Rest) (lines other : List (List ℕ)) → IsRightRest ps a → StopsRest ps a lines → IsRightRest ps b → StopsRest ps b other → behind_positions ps a lines ≡ behind_positions ps b other → (a ≡ b) × (lines ≡ other)
+rest_once : (ps : List Position) → AreClear 32 ps → (a b : Rest) (lines other : List (List ℕ)) → IsRightRest ps a → StopsRest ps a lines → IsRightRest ps b → StopsRest ps b other → after_positions ps a lines ≡ after_positions ps b other → (a ≡ b) × (lines ≡ other)
 rest_once ps clear a b lines other s stop t stop' e =
-    let excludes = section_once (exclude_line ps) (IsSpelledExclude ps) (exclude_once ps clear) a.excludes b.excludes (behind_excludes ps a lines) (behind_excludes ps b other) s.excludes t.excludes stop.excludes stop'.excludes e in
-    let combined = section_once (combined_line ps) (IsSpelledCombined ps) (combined_once ps clear) a.combined b.combined (behind_combined ps a lines) (behind_combined ps b other) s.combined t.combined stop.combined stop'.combined excludes.1 in
-    let cumulative = section_once (cumulative_line ps) (IsSpelledCumulative ps) (cumulative_once ps clear) a.cumulative b.cumulative (behind_cumulative ps a lines) (behind_cumulative ps b other) s.cumulative t.cumulative stop.cumulative stop'.cumulative combined.1 in
-    let items = section_once item_line IsSpelledItem item_once a.items b.items (behind_items ps a lines) (behind_items ps b other) s.items t.items stop.items stop'.items cumulative.1 in
+    let excludes = section_once (exclude_line ps) (IsSpelledExclude ps) (exclude_once ps clear) a.excludes b.excludes (after_excludes ps a lines) (after_excludes ps b other) s.excludes t.excludes stop.excludes stop'.excludes e in
+    let combined = section_once (combined_line ps) (IsSpelledCombined ps) (combined_once ps clear) a.combined b.combined (after_combined ps a lines) (after_combined ps b other) s.combined t.combined stop.combined stop'.combined excludes.1 in
+    let cumulative = section_once (cumulative_line ps) (IsSpelledCumulative ps) (cumulative_once ps clear) a.cumulative b.cumulative (after_cumulative ps a lines) (after_cumulative ps b other) s.cumulative t.cumulative stop.cumulative stop'.cumulative combined.1 in
+    let items = section_once item_line IsSpelledItem item_once a.items b.items (after_items ps a lines) (after_items ps b other) s.items t.items stop.items stop'.items cumulative.1 in
     let loose = section_once (loose_line ps) (IsSpelledLoose ps) (loose_once ps clear) a.loose b.loose lines other s.loose t.loose stop.loose stop'.loose items.1 in
     (λ i. record { excludes = excludes.0 i; combined = combined.0 i; cumulative = cumulative.0 i; items = items.0 i; loose = loose.0 i }, loose.1)
 
@@ -112,9 +112,9 @@ clear_names k ps low s = All-weaker IsSpelledPosition (λ (q : Position). Avoids
 -- the sections of two tasks, and what follows them, are the same where their lines are
 pub sections_once : (a b : Problem) (lines other : List (List ℕ)) → IsSpelled a → IsSpelled b → StopsAll a.hold.positions (rest_of a) lines → StopsAll b.hold.positions (rest_of b) other → front a ++ lines ≡ front b ++ other → (a.hold.positions ≡ b.hold.positions) × (rest_of a ≡ rest_of b) × (lines ≡ other)
 sections_once a b lines other s t stop stop' e =
-    let whole : map position_line a.hold.positions ++ behind_positions a.hold.positions (rest_of a) lines ≡ map position_line b.hold.positions ++ behind_positions b.hold.positions (rest_of b) other = append_cancel_left (codes "TASK 1" ∷ []) _ _ (sym (front-nested a lines) ∙ e ∙ front-nested b other) in
+    let whole : map position_line a.hold.positions ++ after_positions a.hold.positions (rest_of a) lines ≡ map position_line b.hold.positions ++ after_positions b.hold.positions (rest_of b) other = append_cancel_left (codes "TASK 1" ∷ []) _ _ (sym (front-nested a lines) ∙ e ∙ front-nested b other) in
     let positions = section_once position_line IsSpelledPosition position_once a.hold.positions b.hold.positions _ _ s.positions t.positions stop.positions stop'.positions whole in
-    let Same : List Position → Type 0 = λ ps. IsRightRest ps (rest_of b) → StopsRest ps (rest_of b) other → behind_positions a.hold.positions (rest_of a) lines ≡ behind_positions ps (rest_of b) other → (rest_of a ≡ rest_of b) × (lines ≡ other) in
+    let Same : List Position → Type 0 = λ ps. IsRightRest ps (rest_of b) → StopsRest ps (rest_of b) other → after_positions a.hold.positions (rest_of a) lines ≡ after_positions ps (rest_of b) other → (rest_of a ≡ rest_of b) × (lines ≡ other) in
     let here : Same a.hold.positions = rest_once a.hold.positions (clear_names 32 a.hold.positions (lit< tt) s.positions) (rest_of a) (rest_of b) lines other (right_rest a s) stop.rest in
     let rest = subst Same positions.0 here (right_rest b t) stop'.rest positions.1 in
     (positions.0, rest.0, rest.1)
@@ -158,11 +158,11 @@ unfolding kind
 stops_last t more =
     let ps = t.hold.positions in
     let end = last t ++ more in
-    let loose : (k : ℕ) → k < 6 → Later k (behind_items ps (rest_of t) end) = λ k less. later_section (loose_line ps) 6 k (λ x. refl) less t.loose end (later_last k t more (omega arith)) in
-    let items : (k : ℕ) → k < 5 → Later k (behind_cumulative ps (rest_of t) end) = λ k less. later_section item_line 5 k (λ x. refl) less t.items _ (loose k (omega arith)) in
-    let cumulative : (k : ℕ) → k < 4 → Later k (behind_combined ps (rest_of t) end) = λ k less. later_section (cumulative_line ps) 4 k (λ x. refl) less t.hold.cumulative _ (items k (omega arith)) in
-    let combined : (k : ℕ) → k < 3 → Later k (behind_excludes ps (rest_of t) end) = λ k less. later_section (combined_line ps) 3 k (λ x. refl) less t.hold.combined _ (cumulative k (omega arith)) in
-    let excludes : (k : ℕ) → k < 2 → Later k (behind_positions ps (rest_of t) end) = λ k less. later_section (exclude_line ps) 2 k (λ x. refl) less t.hold.excludes _ (combined k (omega arith)) in
+    let loose : (k : ℕ) → k < 6 → Later k (after_items ps (rest_of t) end) = λ k less. later_section (loose_line ps) 6 k (λ x. refl) less t.loose end (later_last k t more (omega arith)) in
+    let items : (k : ℕ) → k < 5 → Later k (after_cumulative ps (rest_of t) end) = λ k less. later_section item_line 5 k (λ x. refl) less t.items _ (loose k (omega arith)) in
+    let cumulative : (k : ℕ) → k < 4 → Later k (after_combined ps (rest_of t) end) = λ k less. later_section (cumulative_line ps) 4 k (λ x. refl) less t.hold.cumulative _ (items k (omega arith)) in
+    let combined : (k : ℕ) → k < 3 → Later k (after_excludes ps (rest_of t) end) = λ k less. later_section (combined_line ps) 3 k (λ x. refl) less t.hold.combined _ (cumulative k (omega arith)) in
+    let excludes : (k : ℕ) → k < 2 → Later k (after_positions ps (rest_of t) end) = λ k less. later_section (exclude_line ps) 2 k (λ x. refl) less t.hold.excludes _ (combined k (omega arith)) in
     record {
       positions = stops_later position_line IsSpelledPosition 1 kind_of_position _ (excludes 1 (lit< tt));
       rest = record {
@@ -190,7 +190,7 @@ same_task a b positions rest end =
       ideal_high = ideal.1 i;
     }
 
--- the lines of one task, and others behind them, are those of another task only where it is the same and there are no others
+-- the lines of one task, and others after them, are those of another task only where it is the same and there are no others
 pub task_once : (a b : Problem) (more : List (List ℕ)) → IsSpelled a → IsSpelled b → task_lines a ++ more ≡ task_lines b → (a ≡ b) × (more ≡ [])
 task_once a b more s t e =
     let same = sections_once a b (last a ++ more) (last b ++ []) s t (stops_last a more) (stops_last b []) (sym (append_assoc (front a) (last a) more) ∙ e) in

@@ -1,10 +1,10 @@
--- no word of a task holds a space or the end of a line
+-- no word of a task contains a space or the end of a line
 use Rattle.std.proofs.Common.{◌≡◌, ℕ, ◌-◌, ◌+◌, ◌<◌, ◌≤◌, Bool, true, false, ◌||◌, refl, eqb, List, [], ◌∷◌, ◌++◌, length, take, drop, sym, ◌∙◌, ap, arith, slice_range, ⊎_elim}
 use Rattle.std.proofs.lemmas.Bool.{ne_eqb}
 use Rattle.std.proofs.lemmas.List.{take-append-drop, drop-drop}
 use Rattle.std.proofs.lemmas.List.Elements.{All-weaker, All-append, All-nil, All-cons, All-same}
 use Rattle.std.specs.List.{list_any}
-use Rattle.hold_limits.specs.Spellings.{IsCapital, IsDigit, IsCapitalOrDigit, IsName, IsKind, IsUldId}
+use Rattle.hold_parts.specs.Spellings.{IsCapital, IsDigit, IsCapitalOrDigit, IsName, IsKind, IsUldId}
 use Rattle.problem_text.specs.Cuts.{Avoids}
 
 capital_avoids : (k c : ℕ) → k < 45 → IsCapital c → eqb c k ≡ false

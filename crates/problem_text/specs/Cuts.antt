@@ -1,4 +1,4 @@
--- where a text is cut: at the end of a line, and between words
+-- where a text is split: at the end of a line, and between words
 use Rattle.std.specs.Prelude.{◌≡◌, ℕ, ◌==◌, false, List, [], ◌∷◌, All}
 
 -- the byte does not occur in the text

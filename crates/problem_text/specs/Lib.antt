@@ -1,7 +1,7 @@
 pub mod Cuts
 pub mod TaskText
 pub mod Refusals
-pub mod Places
+pub mod PositionNumbers
 pub mod WordRuns
 pub mod Sections
 pub mod Reading

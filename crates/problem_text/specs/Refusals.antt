@@ -27,10 +27,10 @@ pub data IsRefused (text : List ℕ) : TextFault → Type 0 where
   -- some task begins with the lines before this one, and none with this one too
   wrong_line : (lines : List (List ℕ)) (line rest : List ℕ) → text ≡ text_of lines ++ (line ++ 10 ∷ rest) → Avoids 10 line
       → BeginTask lines → (BeginTask (lines ++ line ∷ []) → ⊥) → IsRefused text (Line (length lines + 1))
-  -- bytes stand behind the last line of a task
+  -- there are bytes after the last line of a task
   more_bytes : (lines : List (List ℕ)) (byte : ℕ) (rest : List ℕ) → text ≡ text_of lines ++ byte ∷ rest
       → AreTask lines → IsRefused text (Line (length lines + 1))
-  -- some task begins with the lines of the text, and goes on
+  -- some task begins with the lines of the text, and has more
   early_end : (lines : List (List ℕ)) (rest : List ℕ) → text ≡ text_of lines ++ rest → Avoids 10 rest
       → BeginTask lines → (AreTask lines → ⊥) → IsRefused text NoEnd
   -- it spells a task whose hold has this first fault
@@ -38,5 +38,5 @@ pub data IsRefused (text : List ℕ) : TextFault → Type 0 where
   -- it spells a task with a lawful hold and this first fault
   wrong_task : (t : Problem) (fault : TaskFault) → Spells text t → hold_fault t.hold ≡ None → task_fault t ≡ Some fault
       → IsRefused text (Task fault)
-  -- want of memory has no cause in the text
+  -- running out of memory has no cause in the text
   no_memory : IsRefused text NoMemory

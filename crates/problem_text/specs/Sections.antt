@@ -3,19 +3,19 @@ use Rattle.std.specs.Prelude.{◌≡◌, ◌≢◌, ℕ, ◌+◌, List, ◌∷�
 use Rattle.problem_text.specs.Cuts.{Avoids}
 use Rattle.problem_text.specs.TaskText.{text_of}
 
--- the line says an entry of its kind, and this is what is kept of it
+-- the line states an entry of its kind, and this is what the reader keeps of it
 pub record Says {X : Type 0} (line : X → List ℕ) (IsRight : X → Type 0) (keep : X → X) (text : List ℕ) (got : X) : Type 0 where
   pub said : X
   pub kept : got ≡ keep said
   pub right : IsRight said
   pub is : text ≡ line said
 
--- the first line of the text, if it has one, is none of this kind
+-- the first line of the text, if there is one, is not of this kind
 abbrev pub HasNoneAhead : {X : Type 0} → (X → List ℕ) → (X → Type 0) → List ℕ → Type 0
 HasNoneAhead {X} line IsRight text = (front rest : List ℕ) → text ≡ front ++ 10 ∷ rest → Avoids 10 front → (x : X) → IsRight x → front ≢ line x
 
--- the lines between two places of a text say entries of one kind, no line of that kind follows, and this is what
--- is kept of the entries
+-- the lines between two points of a text state entries of one kind, no line of that kind follows, and this is what
+-- the reader keeps of the entries
 pub record IsSection {X : Type 0} (line : X → List ℕ) (IsRight : X → Type 0) (keep : X → X) (before after : List ℕ) (number next : ℕ) (got : List X) : Type 0 where
   pub said : List X
   pub kept : got ≡ map keep said

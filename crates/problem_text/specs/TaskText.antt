@@ -1,20 +1,20 @@
 -- the text of a task, line by line
-use Rattle.std.specs.Prelude.{◌≡◌, ◌≢◌, ℕ, ◌<◌, ◌≤◌, ℤ, Bool, true, false, List, [], ◌∷◌, ◌++◌, length, map, take, slice_get, All, codes}
+use Rattle.std.specs.Prelude.{◌≡◌, ◌≢◌, ℕ, ◌<◌, ◌≤◌, ℤ, Bool, true, false, List, [], ◌∷◌, ◌++◌, length, map, take, All, codes}
 use Rattle.std.specs.List.{join_with_byte}
-use Rattle.std.specs.Option.{option_map_or}
 use Rattle.mass_units.specs.Spelling.{number_text, signed_text, index_text, IsNumber, IsSignedNumber, IsIndex}
-use Rattle.hold_limits.specs.declared.lists.Fit.{Fit}
-use Rattle.hold_limits.specs.declared.parts.Position.{Position}
-use Rattle.hold_limits.specs.declared.parts.Combined.{Combined}
-use Rattle.hold_limits.specs.declared.parts.Cumulative.{Cumulative}
-use Rattle.hold_limits.specs.declared.parts.Item.{Item}
-use Rattle.hold_limits.specs.declared.parts.Loose.{Loose}
-use Rattle.hold_limits.specs.Spellings.{IsName, IsKind, IsUldId}
+use Rattle.hold_parts.specs.declared.lists.Fit.{Fit}
+use Rattle.hold_parts.specs.declared.parts.Position.{Position}
+use Rattle.hold_parts.specs.declared.parts.Combined.{Combined}
+use Rattle.hold_parts.specs.declared.parts.Cumulative.{Cumulative}
+use Rattle.hold_parts.specs.declared.parts.Item.{Item}
+use Rattle.hold_parts.specs.declared.parts.Loose.{Loose}
+use Rattle.hold_parts.specs.Spellings.{IsName, IsKind, IsUldId}
+use Rattle.hold_limits.specs.Layout.{name_at}
 use Rattle.hold_limits.specs.Problem.{Problem}
 
 -- Lines -----------------------------------------------------------------------------------------
 
--- words on a line are parted by one space
+-- the words of a line are separated by one space
 abbrev pub line_of : List (List ℕ) → List ℕ
 line_of words = join_with_byte 32 words
 
@@ -33,10 +33,6 @@ abbrev pub position_line : Position → List ℕ
 position_line q =
     line_of (position_word q.bulk ∷ q.name ∷ number_text q.compartment ∷ signed_text q.influence ∷ fit_words q.fits)
 
--- the name of the position with this number
-abbrev pub name_at : List Position → ℕ → List ℕ
-name_at positions q = option_map_or (λ (place : Position). place.name) (slice_get positions q) []
-
 -- `exclude NAME NAME`
 abbrev pub exclude_line : List Position → ℕ × ℕ → List ℕ
 exclude_line positions pair =
@@ -47,7 +43,7 @@ abbrev pub combined_line : List Position → Combined → List ℕ
 combined_line positions limit =
     line_of (codes "combined" ∷ number_text limit.most.0 ∷ map (name_at positions) limit.places)
 
--- the word that says to which side of its position a cumulative limit counts
+-- the word for the side of its position on which a cumulative limit counts
 abbrev pub side_word : Bool → List ℕ
 side_word true = codes "forward"
 side_word false = codes "aft"
@@ -99,17 +95,17 @@ text_of (line ∷ lines) = line ++ 10 ∷ text_of lines
 
 -- Spellings of the parts ------------------------------------------------------------------------
 
--- a bulk position without kinds, or another with at least one
-abbrev pub HasItsKinds : Bool → List Fit → Type 0
-HasItsKinds true fits = fits ≡ []
-HasItsKinds false fits = 1 ≤ length fits
+-- a bulk position names no kinds, and another at least one
+abbrev pub NamesKindsUnlessBulk : Bool → List Fit → Type 0
+NamesKindsUnlessBulk true fits = fits ≡ []
+NamesKindsUnlessBulk false fits = 1 ≤ length fits
 
--- each part of the position in its spelling
+-- each part of the position is in its spelling
 pub record IsSpelledPosition (q : Position) : Type 0 where
   pub name : IsName q.name
   pub compartment : q.compartment ≤ 9
   pub influence : IsSignedNumber q.influence
-  pub some : HasItsKinds q.bulk q.fits
+  pub some : NamesKindsUnlessBulk q.bulk q.fits
   pub kinds : All (λ (fit : Fit). IsKind fit.kind) q.fits
   pub masses : All (λ (fit : Fit). IsNumber fit.most.0) q.fits
 

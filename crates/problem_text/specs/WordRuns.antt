@@ -1,10 +1,10 @@
--- runs of words at the end of a line, each word behind a space
+-- runs of words at the end of a line, each word after a space
 use Rattle.std.specs.Prelude.{ℕ, List, [], ◌∷◌, ◌++◌}
 use Rattle.mass_units.specs.Spelling.{number_text, IsNumber}
-use Rattle.hold_limits.specs.declared.lists.Fit.{Fit}
-use Rattle.hold_limits.specs.declared.parts.Position.{Position}
-use Rattle.hold_limits.specs.Spellings.{IsKind}
-use Rattle.problem_text.specs.TaskText.{name_at}
+use Rattle.hold_parts.specs.declared.lists.Fit.{Fit}
+use Rattle.hold_parts.specs.declared.parts.Position.{Position}
+use Rattle.hold_parts.specs.Spellings.{IsKind}
+use Rattle.hold_limits.specs.Layout.{name_at}
 
 -- the texts of the entries, one after another
 abbrev pub run_text : {X : Type 0} → (X → List ℕ) → List X → List ℕ

@@ -5,11 +5,11 @@ ghost use Rattle.problem_text.specs.TaskText.{Spells};
 ghost use Rattle.problem_text.specs.Refusals.{IsRefused};
 ghost use Rattle.problem_text.specs.declared.fault.TextFault.{TextFault};
 
-/// Every text has one answer: it spells one task at most; a text that spells a lawful task is not refused; and a
-/// text that is refused is refused for one fault alone, the first of its lines, its hold and its task. Want of
-/// memory, which says nothing of the text, is left aside.
+/// Every text has exactly one answer. It spells at most one task; a text that spells a lawful task has no fault;
+/// a text has at most one fault, the first of its lines, its hold and its task; and no text is without both a lawful
+/// task and a fault. Running out of memory says nothing about the text and is no answer in this sense.
 ///
-/// The call does nothing. Its contract is what it is for.
+/// The call does nothing: it exists for its contract.
 pub fn reading_laws()
     ensures one_task { (text : List ℕ) (a b : Problem) → Spells text a → Spells text b → a ≡ b }
     ensures lawful { (text : List ℕ) (t : Problem) (fault : TextFault)
@@ -17,4 +17,7 @@ pub fn reading_laws()
         → IsRefused text fault → fault ≡ TextFault.NoMemory }
     ensures one_fault { (text : List ℕ) (a b : TextFault) → IsRefused text a → IsRefused text b
         → a ≢ TextFault.NoMemory → b ≢ TextFault.NoMemory → a ≡ b }
+    ensures some_answer { (text : List ℕ)
+        → ((t : Problem) → Spells text t → hold_fault t.hold ≡ None → task_fault t ≡ None → ⊥)
+        → ((fault : TextFault) → IsRefused text fault → fault ≡ TextFault.NoMemory) → ⊥ }
 {}

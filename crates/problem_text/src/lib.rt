@@ -1,5 +1,5 @@
-//! The text of a loading task, read exactly: either the task that the bytes spell, or the first reason
-//! why they spell none.
+//! The text of a loading task, read exactly: the result is the task that the bytes spell, or else the one reason
+//! why they spell no lawful task.
 //!
 //! ```text
 //! TASK 1
@@ -18,7 +18,7 @@
 //! ```
 //!
 //! A position line has the name, the compartment, the index ticks for each kilogram, and the kinds that the
-//! position takes, each with the greatest mass of one in kilograms; a bulk position takes loose loads in their place.
+//! position takes, each with the greatest mass of one in kilograms; a bulk position takes loose loads instead.
 //! Then come the pairs of positions of which only one may be used, the greatest masses on some positions together,
 //! and those on all positions up to one, or from one on. An item line has the identity and the mass of a container,
 //! a loose line the mass on a bulk position. The indices are the base, the window for the hold index, and the ideal

@@ -2,16 +2,17 @@
 
 ghost use Rattle.std.specs.Prelude.{◌≡◌, ◌≢◌, ℕ, Bool, ◌∷◌, ◌++◌, [], List, map, All, codes, IfSome, IfNone, IfOk, IsSomeAnd};
 ghost use Rattle.mass_units.specs.Spelling.{number_text, IsNumber};
-ghost use Rattle.hold_limits.specs.declared.parts.Combined.{Combined};
-ghost use Rattle.hold_limits.specs.declared.parts.Cumulative.{Cumulative};
-ghost use Rattle.hold_limits.specs.declared.parts.Loose.{Loose};
+ghost use Rattle.hold_parts.specs.declared.parts.Combined.{Combined};
+ghost use Rattle.hold_parts.specs.declared.parts.Cumulative.{Cumulative};
+ghost use Rattle.hold_parts.specs.declared.parts.Loose.{Loose};
 ghost use Rattle.problem_text.specs.Cuts.{IsCutAt};
-ghost use Rattle.problem_text.specs.TaskText.{side_word, exclude_line, combined_line, cumulative_line, loose_line, name_at, IsNamed, IsSpelledExclude, IsSpelledCombined, IsSpelledCumulative, IsSpelledLoose};
-ghost use Rattle.problem_text.specs.Places.{byte_of, keep_pair, keep_combined, keep_cumulative, keep_loose};
+ghost use Rattle.problem_text.specs.TaskText.{side_word, exclude_line, combined_line, cumulative_line, loose_line, IsNamed, IsSpelledExclude, IsSpelledCombined, IsSpelledCumulative, IsSpelledLoose};
+ghost use Rattle.hold_limits.specs.Layout.{name_at};
+ghost use Rattle.problem_text.specs.PositionNumbers.{byte_of, keep_pair, keep_combined, keep_cumulative, keep_loose};
 ghost use Rattle.problem_text.specs.WordRuns.{run_text, name_text};
 ghost use Rattle.problem_text.specs.Sections.{Says};
 
-use crate::cuts::{behind, cut, split_once};
+use crate::cuts::{after_prefix, cut, split_once};
 use crate::names::Names;
 use desk_base::NoMemory;
 use hold_limits::{Combined, Cumulative, Loose, Places};
@@ -25,10 +26,8 @@ pub fn read_exclude(names: &Names<'_>, line: &[u8]) -> Option<(u8, u8)>
     ensures none { IfNone result ((pair : ℕ × ℕ) → IsSpelledExclude names.now.positions.now pair
         → line.now ≢ exclude_line names.now.positions.now pair) }
 {
-    let (first, second) = split_once(b' ', behind(b"exclude ", line)?)?;
-    let first = names.place_of(first)?;
-    let second = names.place_of(second)?;
-    Some((first, second))
+    let (first, second) = split_once(b' ', after_prefix(b"exclude ", line)?)?;
+    Some((names.number_of(first)?, names.number_of(second)?))
 }
 
 /// The limit of a line `combined MOST NAME NAME ..`.
@@ -45,16 +44,16 @@ pub fn read_combined(
     let Some((most, words)) = combined_words(line) else {
         return Ok(None);
     };
-    match read_places(alloc, names, words)? {
-        Some(places) => Ok(Some(Combined {
-            places: Places::from(places),
-            most,
-        })),
-        None => Ok(None),
-    }
+    let Some(places) = read_positions(alloc, names, words)? else {
+        return Ok(None);
+    };
+    Ok(Some(Combined {
+        places: Places::from(places),
+        most,
+    }))
 }
 
-/// The greatest mass on a combined line, and the words behind it, of which there is one at least.
+/// The greatest mass on a combined line, and the words after it, of which there is at least one.
 fn combined_words(line: &[u8]) -> Option<(Kg, &[u8])>
     ensures found { IfSome result (λ x.
         (line.now ≡ codes "combined " ++ (number_text x.0.0 ++ x.1.now)) × IsNumber x.0.0) }
@@ -63,43 +62,47 @@ fn combined_words(line: &[u8]) -> Option<(Kg, &[u8])>
         → line.now ≡ codes "combined " ++ (number_text most ++ words)
         → IsSomeAnd result (λ x. (x.0.0 ≡ most) × (x.1.now ≡ words)) }
 {
-    let (most, words) = cut(b' ', behind(b"combined ", line)?);
+    let (most, words) = cut(b' ', after_prefix(b"combined ", line)?);
     if words.is_empty() {
         return None;
     }
     Some((Kg(read_number(most)?), words))
 }
 
-/// The positions that the words name, each word behind its space.
-fn read_places(alloc: Global, names: &Names<'_>, words: &[u8]) -> Result<Option<Vec<u8>>, NoMemory>
+/// The numbers of the positions that the words name. Each word has a space before it.
+fn read_positions(
+    alloc: Global,
+    names: &Names<'_>,
+    words: &[u8],
+) -> Result<Option<Vec<u8>>, NoMemory>
     requires { IsCutAt 32 words.now }
-    ensures found { IfOk result (λ r. IfSome r (λ got. (places : List ℕ) × (got.items ≡ map byte_of places)
-        × All (IsNamed names.now.positions.now) places × (words.now ≡ run_text (name_text names.now.positions.now) places))) }
-    ensures none { IfOk result (λ r. IfNone r ((places : List ℕ) → All (IsNamed names.now.positions.now) places
-        → words.now ≢ run_text (name_text names.now.positions.now) places)) }
+    ensures found { IfOk result (λ r. IfSome r (λ got. (numbers : List ℕ) × (got.items ≡ map byte_of numbers)
+        × All (IsNamed names.now.positions.now) numbers × (words.now ≡ run_text (name_text names.now.positions.now) numbers))) }
+    ensures none { IfOk result (λ r. IfNone r ((numbers : List ℕ) → All (IsNamed names.now.positions.now) numbers
+        → words.now ≢ run_text (name_text names.now.positions.now) numbers)) }
 {
-    let mut places = Vec::new(alloc);
+    let mut numbers = Vec::new(alloc);
     let mut rest = words;
     while !rest.is_empty() {
-        let Some((place, more)) = next_place(names, rest) else {
+        let Some((number, more)) = next_position(names, rest) else {
             return Ok(None);
         };
-        places.push(place)?;
+        numbers.push(number)?;
         rest = more;
     }
-    Ok(Some(places))
+    Ok(Some(numbers))
 }
 
-/// The position that the word at the front names, and the words behind it.
-fn next_place<'a>(names: &Names<'_>, words: &'a [u8]) -> Option<(u8, &'a [u8])>
-    ensures found { IfSome result (λ x. (place : ℕ) × (x.0 ≡ byte_of place) × IsNamed names.now.positions.now place
-        × (words.now ≡ name_text names.now.positions.now place ++ x.1.now)) }
-    ensures behind { IfSome result (λ x. IsCutAt 32 x.1.now) }
-    ensures none { IfNone result ((place : ℕ) (rest : List ℕ) → IsNamed names.now.positions.now place → IsCutAt 32 rest
-        → words.now ≢ name_text names.now.positions.now place ++ rest) }
+/// The number of the position that the first word names, and the words after it.
+fn next_position<'a>(names: &Names<'_>, words: &'a [u8]) -> Option<(u8, &'a [u8])>
+    ensures found { IfSome result (λ x. (number : ℕ) × (x.0 ≡ byte_of number) × IsNamed names.now.positions.now number
+        × (words.now ≡ name_text names.now.positions.now number ++ x.1.now)) }
+    ensures rest { IfSome result (λ x. IsCutAt 32 x.1.now) }
+    ensures none { IfNone result ((number : ℕ) (rest : List ℕ) → IsNamed names.now.positions.now number → IsCutAt 32 rest
+        → words.now ≢ name_text names.now.positions.now number ++ rest) }
 {
-    let (name, rest) = cut(b' ', behind(b" ", words)?);
-    Some((names.place_of(name)?, rest))
+    let (name, rest) = cut(b' ', after_prefix(b" ", words)?);
+    Some((names.number_of(name)?, rest))
 }
 
 /// The limit of a line `cumulative forward NAME MOST` or `cumulative aft NAME MOST`.
@@ -109,10 +112,10 @@ pub fn read_cumulative(names: &Names<'_>, line: &[u8]) -> Option<Cumulative>
     ensures none { IfNone result ((limit : Cumulative)
         → IsSpelledCumulative names.now.positions.now limit → line.now ≢ cumulative_line names.now.positions.now limit) }
 {
-    let (side, rest) = split_once(b' ', behind(b"cumulative ", line)?)?;
+    let (side, rest) = split_once(b' ', after_prefix(b"cumulative ", line)?)?;
     let forward = read_side(side)?;
-    let (place, most) = split_once(b' ', rest)?;
-    let place = names.place_of(place)?;
+    let (name, most) = split_once(b' ', rest)?;
+    let place = names.number_of(name)?;
     let most = Kg(read_number(most)?);
     Some(Cumulative {
         forward,
@@ -121,7 +124,7 @@ pub fn read_cumulative(names: &Names<'_>, line: &[u8]) -> Option<Cumulative>
     })
 }
 
-/// Whether the word is `forward`, and None where it is not `aft` either.
+/// Whether the word is `forward`. None where it is neither `forward` nor `aft`.
 fn read_side(word: &[u8]) -> Option<bool>
     ensures found { IfSome result (λ forward. word.now ≡ side_word forward) }
     ensures none { IfNone result ((forward : Bool) → word.now ≢ side_word forward) }
@@ -140,8 +143,8 @@ pub fn read_loose(names: &Names<'_>, line: &[u8]) -> Option<Loose>
     ensures none { IfNone result ((load : Loose)
         → IsSpelledLoose names.now.positions.now load → line.now ≢ loose_line names.now.positions.now load) }
 {
-    let (position, mass) = split_once(b' ', behind(b"loose ", line)?)?;
-    let position = names.place_of(position)?;
+    let (name, mass) = split_once(b' ', after_prefix(b"loose ", line)?)?;
+    let position = names.number_of(name)?;
     let mass = Kg(read_number(mass)?);
     Some(Loose { position, mass })
 }

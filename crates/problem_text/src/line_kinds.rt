@@ -1,4 +1,4 @@
-//! The kinds of lines of which a task has any number.
+//! The kinds of lines that a task may have any number of.
 
 use crate::limit_readers::{read_combined, read_cumulative, read_exclude, read_loose};
 use crate::line_readers::read_item;
@@ -51,7 +51,7 @@ impl LineReader for PositionLines {
 
 impl LineReader for ExcludeLines<'_, '_> {
     ghost use Rattle.problem_text.specs.TaskText.{exclude_line, IsSpelledExclude};
-    ghost use Rattle.problem_text.specs.Places.{keep_pair};
+    ghost use Rattle.problem_text.specs.PositionNumbers.{keep_pair};
 
     type Entry = (u8, u8);
 
@@ -68,7 +68,7 @@ impl LineReader for ExcludeLines<'_, '_> {
 
 impl LineReader for CombinedLines<'_, '_> {
     ghost use Rattle.problem_text.specs.TaskText.{combined_line, IsSpelledCombined};
-    ghost use Rattle.problem_text.specs.Places.{keep_combined};
+    ghost use Rattle.problem_text.specs.PositionNumbers.{keep_combined};
 
     type Entry = Combined;
 
@@ -85,7 +85,7 @@ impl LineReader for CombinedLines<'_, '_> {
 
 impl LineReader for CumulativeLines<'_, '_> {
     ghost use Rattle.problem_text.specs.TaskText.{cumulative_line, IsSpelledCumulative};
-    ghost use Rattle.problem_text.specs.Places.{keep_cumulative};
+    ghost use Rattle.problem_text.specs.PositionNumbers.{keep_cumulative};
 
     type Entry = Cumulative;
 
@@ -118,7 +118,7 @@ impl LineReader for ItemLines {
 
 impl LineReader for LooseLines<'_, '_> {
     ghost use Rattle.problem_text.specs.TaskText.{loose_line, IsSpelledLoose};
-    ghost use Rattle.problem_text.specs.Places.{keep_loose};
+    ghost use Rattle.problem_text.specs.PositionNumbers.{keep_loose};
 
     type Entry = Loose;
 

@@ -4,41 +4,42 @@ ghost use Rattle.std.specs.Prelude.{◌≡◌, ◌≢◌, ℤ, ◌∷◌, ◌++�
 ghost use Rattle.mass_units.specs.Spelling.{index_text, IsIndex};
 ghost use Rattle.problem_text.specs.TaskText.{item_line, IsSpelledItem};
 ghost use Rattle.problem_text.specs.Reading.{IsIndexLine, IsBandLine};
-ghost use Rattle.hold_limits.specs.declared.parts.Item.{Item};
+ghost use Rattle.hold_parts.specs.declared.parts.Item.{Item};
 
-use crate::cuts::{behind, split_once};
-use crate::parts::Band;
+use crate::cuts::{after_prefix, split_once};
 use hold_limits::{Item, UldId};
-use mass_units::{Kg, Ticks, read_number, read_ticks5};
+use mass_units::{Band, Kg, Ticks, read_number, read_ticks5};
 
 /// The container of a line `item ID MASS`.
 pub fn read_item(line: &[u8]) -> Option<Item>
     ensures found { IfSome result (λ item. (line.now ≡ item_line item) × IsSpelledItem item) }
     ensures none { IfNone result ((item : Item) → IsSpelledItem item → line.now ≢ item_line item) }
 {
-    let (id, mass) = split_once(b' ', behind(b"item ", line)?)?;
-    let id = UldId::read(id)?;
-    let mass = Kg(read_number(mass)?);
-    Some(Item { id, mass })
+    let (id, mass) = split_once(b' ', after_prefix(b"item ", line)?)?;
+    Some(Item {
+        id: UldId::read(id)?,
+        mass: Kg(read_number(mass)?),
+    })
 }
 
-/// The index of a line with one index behind the keyword and its space.
+/// The index of a line with one index after the keyword and its space.
 pub fn read_index(keyword: &[u8], line: &[u8]) -> Option<Ticks>
     ensures found { IfSome result (λ index. (line.now ≡ keyword.now ++ index_text index.0)
         × IsIndex index.0) }
     ensures none { IfNone result (IsIndexLine keyword.now line.now → ⊥) }
 {
-    read_ticks5(behind(keyword, line)?).ok()
+    read_ticks5(after_prefix(keyword, line)?).ok()
 }
 
-/// The ends on a line with two indices behind the keyword and its space.
+/// The band of a line with two indices after the keyword and its space.
 pub fn read_band(keyword: &[u8], line: &[u8]) -> Option<Band>
     ensures found { IfSome result (λ band. (line.now ≡ keyword.now ++ (index_text band.low.0 ++ 32 ∷ index_text band.high.0))
         × IsIndex band.low.0 × IsIndex band.high.0) }
     ensures none { IfNone result (IsBandLine keyword.now line.now → ⊥) }
 {
-    let (low, high) = split_once(b' ', behind(keyword, line)?)?;
-    let low = read_ticks5(low).ok()?;
-    let high = read_ticks5(high).ok()?;
-    Some(Band { low, high })
+    let (low, high) = split_once(b' ', after_prefix(keyword, line)?)?;
+    Some(Band {
+        low: read_ticks5(low).ok()?,
+        high: read_ticks5(high).ok()?,
+    })
 }

@@ -2,40 +2,30 @@
 
 ghost use Rattle.std.specs.Prelude.{◌≡◌, ℕ, ℤ, List, [], ◌∷◌, ◌++◌, OnOk, codes};
 ghost use Rattle.mass_units.specs.Spelling.{number_text, signed_text, index_text};
-ghost use Rattle.hold_limits.specs.Spellings.{IsName, IsUldId};
-ghost use Rattle.problem_text.specs.TaskText.{line_of, name_at, position_word, side_word, position_line, exclude_line, combined_line, cumulative_line, item_line, loose_line};
+ghost use Rattle.hold_parts.specs.Spellings.{IsName, IsUldId};
+ghost use Rattle.problem_text.specs.TaskText.{line_of, position_word, side_word, position_line, exclude_line, combined_line, cumulative_line, item_line, loose_line};
 ghost use Rattle.problem_text.specs.WordRuns.{run_text, fit_text, name_text};
 
 use desk_base::NoMemory;
-use hold_limits::{Combined, Cumulative, Fit, Item, Loose, Position};
+use hold_limits::{Combined, Cumulative, Fit, Hold, Item, Loose, Position};
 use mass_units::{Ticks, write_number, write_signed, write_ticks5};
 use std::alloc::Global;
 
-/// The word of a bulk position's line, or of another position's.
+/// The first word of a position's line.
 fn word_of_position(bulk: bool) -> &'static [u8]
     ensures { result.now ≡ position_word bulk }
 {
     if bulk { b"bulk" } else { b"position" }
 }
 
-/// The word for the side that a cumulative limit counts.
+/// The word for the side on which a cumulative limit counts.
 fn word_of_side(forward: bool) -> &'static [u8]
     ensures { result.now ≡ side_word forward }
 {
     if forward { b"forward" } else { b"aft" }
 }
 
-/// The name of a position, and nothing where the number is no position's.
-fn name_of(positions: &[Position], number: u8) -> &[u8]
-    ensures { result.now ≡ name_at positions.now number }
-{
-    match positions.get(number as usize) {
-        Some(position) => position.name.bytes(),
-        None => b"",
-    }
-}
-
-/// Appends a word behind a space.
+/// Appends a word after a space.
 fn push_word(text: &mut Vec<u8>, word: &[u8]) -> Result<(), NoMemory>
     ensures { OnOk result (text.new.items ≡ text.old.items ++ 32 ∷ word.now) }
 {
@@ -44,7 +34,7 @@ fn push_word(text: &mut Vec<u8>, word: &[u8]) -> Result<(), NoMemory>
     Ok(())
 }
 
-/// Appends a number behind a space.
+/// Appends a number after a space.
 fn push_number(alloc: Global, text: &mut Vec<u8>, number: u32) -> Result<(), NoMemory>
     ensures { OnOk result (text.new.items ≡ text.old.items ++ 32 ∷ number_text number) }
 {
@@ -52,7 +42,7 @@ fn push_number(alloc: Global, text: &mut Vec<u8>, number: u32) -> Result<(), NoM
     write_number(alloc, u64::from(number), text)
 }
 
-/// Appends the influence of a position behind a space.
+/// Appends the influence of a position after a space.
 fn push_influence(alloc: Global, text: &mut Vec<u8>, position: &Position) -> Result<(), NoMemory>
     ensures { OnOk result
         (text.new.items ≡ text.old.items ++ 32 ∷ signed_text position.now.influence) }
@@ -61,7 +51,7 @@ fn push_influence(alloc: Global, text: &mut Vec<u8>, position: &Position) -> Res
     write_signed(alloc, position.influence, text)
 }
 
-/// Appends an index behind a space.
+/// Appends an index after a space.
 fn push_index(alloc: Global, text: &mut Vec<u8>, index: Ticks) -> Result<(), NoMemory>
     ensures { OnOk result (text.new.items ≡ text.old.items ++ 32 ∷ index_text index.0) }
 {
@@ -69,7 +59,7 @@ fn push_index(alloc: Global, text: &mut Vec<u8>, index: Ticks) -> Result<(), NoM
     write_ticks5(alloc, index, text)
 }
 
-/// Appends a kind with its greatest mass, each behind a space.
+/// Appends a kind with its greatest mass, each after a space.
 fn push_fit(alloc: Global, text: &mut Vec<u8>, fit: &Fit) -> Result<(), NoMemory>
     ensures { OnOk result (text.new.items ≡ text.old.items ++ fit_text fit.now) }
 {
@@ -104,28 +94,24 @@ pub fn push_position(alloc: Global, text: &mut Vec<u8>, position: &Position) -> 
 }
 
 /// Appends the line of an excluding pair.
-pub fn push_exclude(
-    text: &mut Vec<u8>,
-    positions: &[Position],
-    pair: (u8, u8),
-) -> Result<(), NoMemory>
+pub fn push_exclude(text: &mut Vec<u8>, hold: &Hold, pair: (u8, u8)) -> Result<(), NoMemory>
     ensures { OnOk result
-        (text.new.items ≡ text.old.items ++ (exclude_line positions.now pair ++ 10 ∷ [])) }
+        (text.new.items ≡ text.old.items ++ (exclude_line hold.now.positions pair ++ 10 ∷ [])) }
 {
     text.extend_from_slice(b"exclude")?;
-    push_word(text, name_of(positions, pair.0))?;
-    push_word(text, name_of(positions, pair.1))?;
+    push_word(text, hold.name_at(pair.0))?;
+    push_word(text, hold.name_at(pair.1))?;
     text.push(b'\n')?;
     Ok(())
 }
 
 /// Appends the names of positions.
-fn push_names(text: &mut Vec<u8>, positions: &[Position], places: &[u8]) -> Result<(), NoMemory>
+fn push_names(text: &mut Vec<u8>, hold: &Hold, numbers: &[u8]) -> Result<(), NoMemory>
     ensures { OnOk result
-        (text.new.items ≡ text.old.items ++ run_text (name_text positions.now) places.now) }
+        (text.new.items ≡ text.old.items ++ run_text (name_text hold.now.positions) numbers.now) }
 {
-    for place in places {
-        push_word(text, name_of(positions, *place))?;
+    for number in numbers {
+        push_word(text, hold.name_at(*number))?;
     }
     Ok(())
 }
@@ -134,15 +120,15 @@ fn push_names(text: &mut Vec<u8>, positions: &[Position], places: &[u8]) -> Resu
 pub fn push_combined(
     alloc: Global,
     text: &mut Vec<u8>,
-    positions: &[Position],
+    hold: &Hold,
     limit: &Combined,
 ) -> Result<(), NoMemory>
     ensures { OnOk result
-        (text.new.items ≡ text.old.items ++ (combined_line positions.now limit.now ++ 10 ∷ [])) }
+        (text.new.items ≡ text.old.items ++ (combined_line hold.now.positions limit.now ++ 10 ∷ [])) }
 {
     text.extend_from_slice(b"combined")?;
     push_number(alloc, text, limit.most.0)?;
-    push_names(text, positions, limit.places.as_slice())?;
+    push_names(text, hold, limit.places.as_slice())?;
     text.push(b'\n')?;
     Ok(())
 }
@@ -151,15 +137,15 @@ pub fn push_combined(
 pub fn push_cumulative(
     alloc: Global,
     text: &mut Vec<u8>,
-    positions: &[Position],
+    hold: &Hold,
     limit: &Cumulative,
 ) -> Result<(), NoMemory>
     ensures { OnOk result
-        (text.new.items ≡ text.old.items ++ (cumulative_line positions.now limit.now ++ 10 ∷ [])) }
+        (text.new.items ≡ text.old.items ++ (cumulative_line hold.now.positions limit.now ++ 10 ∷ [])) }
 {
     text.extend_from_slice(b"cumulative")?;
     push_word(text, word_of_side(limit.forward))?;
-    push_word(text, name_of(positions, limit.place))?;
+    push_word(text, hold.name_at(limit.place))?;
     push_number(alloc, text, limit.most.0)?;
     text.push(b'\n')?;
     Ok(())
@@ -183,14 +169,14 @@ pub fn push_item(alloc: Global, text: &mut Vec<u8>, item: &Item) -> Result<(), N
 pub fn push_loose(
     alloc: Global,
     text: &mut Vec<u8>,
-    positions: &[Position],
+    hold: &Hold,
     load: &Loose,
 ) -> Result<(), NoMemory>
     ensures { OnOk result
-        (text.new.items ≡ text.old.items ++ (loose_line positions.now load.now ++ 10 ∷ [])) }
+        (text.new.items ≡ text.old.items ++ (loose_line hold.now.positions load.now ++ 10 ∷ [])) }
 {
     text.extend_from_slice(b"loose")?;
-    push_word(text, name_of(positions, load.position))?;
+    push_word(text, hold.name_at(load.position))?;
     push_number(alloc, text, load.mass.0)?;
     text.push(b'\n')?;
     Ok(())
@@ -212,7 +198,7 @@ pub fn push_index_line(
     Ok(())
 }
 
-/// Appends a line of a word and the ends of a range of indices.
+/// Appends a line of a word and a band of indices.
 pub fn push_band_line(
     alloc: Global,
     text: &mut Vec<u8>,

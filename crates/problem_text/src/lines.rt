@@ -6,7 +6,7 @@ ghost use Rattle.problem_text.specs.Cuts.{Avoids};
 use crate::cuts::split_once;
 use crate::fault::TextFault;
 
-/// The lines that are still to be read. A last piece that no LF ends is no line.
+/// The lines that are still to be read. A last piece without an LF is not a line.
 #[derive(Clone, Copy)]
 pub struct Lines<'a> {
     pub rest: &'a [u8],
@@ -27,7 +27,7 @@ impl<'a> Lines<'a> {
         }
     }
 
-    /// The next line, and the lines behind it.
+    /// The next line, and the lines after it.
     pub fn split_first(&self) -> Option<(&'a [u8], Lines<'a>)>
         ensures found { IfSome result (λ x. (self.now.rest.now ≡ x.0.now ++ 10 ∷ x.1.rest.now)
             × Avoids 10 x.0.now) }
@@ -39,7 +39,7 @@ impl<'a> Lines<'a> {
         Some((line, Lines { rest, number }))
     }
 
-    /// Steps over the next line. It is refused where the text stops before the end of that line.
+    /// Consumes the next line. Fails where the text stops before the end of that line.
     pub fn next_line(&mut self) -> Result<&'a [u8], TextFault>
         ensures found { IfOk result (λ line.
             (self.old.rest.now ≡ line.now ++ 10 ∷ self.new.rest.now) × Avoids 10 line.now) }

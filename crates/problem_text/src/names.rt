@@ -4,23 +4,24 @@ ghost use Rattle.std.specs.Prelude.{◌≡◌, ◌≢◌, ℕ, List, All, option
 ghost use Rattle.std.specs.Ordering.{nat_cmp};
 ghost use Rattle.std.specs.Cmp.Lexicographic.{slice_cmp};
 ghost use Rattle.std.specs.BTreeMap.{get_by};
-ghost use Rattle.hold_limits.specs.declared.parts.Position.{Position};
+ghost use Rattle.hold_parts.specs.declared.parts.Position.{Position};
 ghost use Rattle.problem_text.specs.Cuts.{Avoids};
-ghost use Rattle.problem_text.specs.TaskText.{name_at, IsNamed};
-ghost use Rattle.problem_text.specs.Places.{byte_of, place_named};
+ghost use Rattle.problem_text.specs.TaskText.{IsNamed};
+ghost use Rattle.hold_limits.specs.Layout.{name_at};
+ghost use Rattle.problem_text.specs.PositionNumbers.{byte_of, number_named};
 
 use desk_base::NoMemory;
 use hold_limits::Position;
 use std::alloc::Global;
 use std::collections::BTreeMap;
 
-/// The numbers of positions by their names. Of positions with one name it is the first that is meant.
+/// The numbers of positions by their names. A name that several positions have means the first of them.
 #[derive(Drop)]
 pub struct Names<'a> {
     pub positions: &'a [Position],
-    places: BTreeMap<&'a [u8], u8>,
+    numbers: BTreeMap<&'a [u8], u8>,
     ghost named: { (name : List ℕ)
-        → get_by (λ k. slice_cmp nat_cmp name k.now) places ≡ option_map byte_of (place_named positions.now name) },
+        → get_by (λ k. slice_cmp nat_cmp name k.now) numbers ≡ option_map byte_of (number_named positions.now name) },
     ghost clear: { All (λ (q : Position). Avoids 32 q.name) positions.now },
 }
 
@@ -30,31 +31,31 @@ impl<'a> Names<'a> {
         requires { All (λ (q : Position). Avoids 32 q.name) positions.now }
         ensures { IfOk result (λ names. names.positions.now ≡ positions.now) }
     {
-        let mut places = BTreeMap::new(alloc);
-        for (place, position) in positions.iter().enumerate() {
+        let mut numbers = BTreeMap::new(alloc);
+        for (number, position) in positions.iter().enumerate() {
             let name = position.name.bytes();
-            if !places.contains_key(name) {
-                places.insert(name, byte_of(place))?;
+            if !numbers.contains_key(name) {
+                numbers.insert(name, byte_of(number))?;
             }
         }
-        Ok(Names { positions, places })
+        Ok(Names { positions, numbers })
     }
 
-    /// The number of the position with this name, and None exactly where there is none.
-    pub fn place_of(&self, name: &[u8]) -> Option<u8>
-        ensures found { IfSome result (λ q. (place : ℕ) × IsNamed self.now.positions.now place
-            × (name.now ≡ name_at self.now.positions.now place) × (q ≡ byte_of place)) }
-        ensures none { IfNone result ((place : ℕ) → IsNamed self.now.positions.now place
-            → name.now ≢ name_at self.now.positions.now place) }
+    /// The number of the position with this name. None exactly where there is no such position.
+    pub fn number_of(&self, name: &[u8]) -> Option<u8>
+        ensures found { IfSome result (λ q. (number : ℕ) × IsNamed self.now.positions.now number
+            × (name.now ≡ name_at self.now.positions.now number) × (q ≡ byte_of number)) }
+        ensures none { IfNone result ((number : ℕ) → IsNamed self.now.positions.now number
+            → name.now ≢ name_at self.now.positions.now number) }
         ensures clear { All (λ (q : Position). Avoids 32 q.name) self.now.positions.now }
     {
-        self.places.get(name).copied()
+        self.numbers.get(name).copied()
     }
 }
 
-/// The number as a byte. A hold with so many positions that a byte does not hold their numbers is refused.
-fn byte_of(place: usize) -> u8
-    ensures { result ≡ byte_of place }
+/// The number as a byte, and 255 where it does not fit: a hold with so many positions is refused anyway.
+fn byte_of(number: usize) -> u8
+    ensures { result ≡ byte_of number }
 {
-    u8::try_from(place).unwrap_or(u8::MAX)
+    u8::try_from(number).unwrap_or(u8::MAX)
 }

@@ -1,22 +1,5 @@
 use hold_limits::{Combined, Cumulative, Item, Loose, Position};
-use mass_units::Ticks;
-
-/// The two ends of a range of indices.
-#[derive(Clone, Copy, Debug)]
-pub struct Band {
-    pub low: Ticks,
-    pub high: Ticks,
-}
-
-/// The indices of a task.
-#[derive(Clone, Copy, Debug)]
-pub struct Indices {
-    pub base: Ticks,
-    /// The window for the hold index.
-    pub window: Band,
-    /// The ideal band for the take-off index.
-    pub ideal: Band,
-}
+use hold_parts::Indices;
 
 /// What the lines between those of the positions and those of the indices say.
 #[derive(Debug, Drop)]

@@ -2,27 +2,27 @@
 
 ghost use Rattle.std.specs.Prelude.{◌≡◌, ◌≢◌, ℕ, ℤ, ◌≤◌, Bool, List, ◌∷◌, ◌++◌, length, All, IfSome, IfNone, IfOk, IsSomeAnd};
 ghost use Rattle.mass_units.specs.Spelling.{number_text, signed_text, IsNumber, IsSignedNumber};
-ghost use Rattle.hold_limits.specs.declared.lists.Fit.{Fit};
-ghost use Rattle.hold_limits.specs.declared.parts.Position.{Position};
-ghost use Rattle.hold_limits.specs.Spellings.{IsKind, IsName};
+ghost use Rattle.hold_parts.specs.declared.lists.Fit.{Fit};
+ghost use Rattle.hold_parts.specs.declared.parts.Position.{Position};
+ghost use Rattle.hold_parts.specs.Spellings.{IsKind, IsName};
 ghost use Rattle.problem_text.specs.Cuts.{Avoids, IsCutAt};
 ghost use Rattle.problem_text.specs.WordRuns.{run_text, fit_text, IsSpelledFit};
-ghost use Rattle.problem_text.specs.TaskText.{position_word, position_line, HasItsKinds, IsSpelledPosition};
+ghost use Rattle.problem_text.specs.TaskText.{position_word, position_line, NamesKindsUnlessBulk, IsSpelledPosition};
 
-use crate::cuts::{behind, cut, split_once};
+use crate::cuts::{after_prefix, cut, split_once};
 use desk_base::NoMemory;
 use hold_limits::{Fit, Fits, Name, Position, is_kind};
 use mass_units::{Kg, read_number, read_signed};
 use std::alloc::Global;
 
-/// The words of a position line. The kinds and masses at its end stay together.
+/// The words of a position line. The kinds and masses at its end are not split yet.
 #[derive(Clone, Copy)]
 struct Words<'a> {
     bulk: bool,
     name: &'a [u8],
     compartment: &'a [u8],
     influence: &'a [u8],
-    /// Each word behind its space.
+    /// Each word has a space before it.
     fits: &'a [u8],
 }
 
@@ -37,17 +37,17 @@ pub fn read_position(alloc: Global, line: &[u8]) -> Result<Option<Position>, NoM
     let Some(words) = position_words(line) else {
         return Ok(None);
     };
-    match read_fits(alloc, words.fits)? {
-        Some(fits) => Ok(position_of(words, fits)),
-        None => Ok(None),
-    }
+    let Some(fits) = read_fits(alloc, words.fits)? else {
+        return Ok(None);
+    };
+    Ok(position_of(words, fits))
 }
 
-/// Parts the words of a position line.
+/// Splits the words of a position line.
 fn position_words(line: &[u8]) -> Option<Words<'_>>
     ensures found { IfSome result (λ w. line.now
         ≡ position_word w.bulk ++ 32 ∷ (w.name.now ++ 32 ∷ (w.compartment.now ++ 32 ∷ (w.influence.now ++ w.fits.now)))) }
-    ensures behind_space { IfSome result (λ w. IsCutAt 32 w.fits.now) }
+    ensures after_space { IfSome result (λ w. IsCutAt 32 w.fits.now) }
     ensures read_back { (bulk : Bool) (name compartment influence fits : List ℕ)
         → Avoids 32 name → Avoids 32 compartment → Avoids 32 influence → IsCutAt 32 fits
         → line.now ≡ position_word bulk ++ 32 ∷ (name ++ 32 ∷ (compartment ++ 32 ∷ (influence ++ fits)))
@@ -68,7 +68,7 @@ fn position_words(line: &[u8]) -> Option<Words<'_>>
     })
 }
 
-/// Whether the word begins the line of a bulk position, and None where it does not begin that of another either.
+/// Whether the word begins the line of a bulk position. None where it begins no position line.
 fn read_keyword(word: &[u8]) -> Option<bool>
     ensures found { IfSome result (λ bulk. word.now ≡ position_word bulk) }
     ensures none { IfNone result ((bulk : Bool) → word.now ≢ position_word bulk) }
@@ -80,7 +80,7 @@ fn read_keyword(word: &[u8]) -> Option<bool>
     }
 }
 
-/// The kinds and masses, each word behind its space.
+/// The kinds and masses. Each word has a space before it.
 fn read_fits(alloc: Global, words: &[u8]) -> Result<Option<Vec<Fit>>, NoMemory>
     requires { IsCutAt 32 words.now }
     ensures found { IfOk result (λ r. IfSome r (λ fits.
@@ -100,7 +100,7 @@ fn read_fits(alloc: Global, words: &[u8]) -> Result<Option<Vec<Fit>>, NoMemory>
     Ok(Some(fits))
 }
 
-/// The kind and mass at the front, and the words behind them.
+/// The first kind and mass, and the words after them.
 fn next_fit(words: &[u8]) -> Option<(Fit, &[u8])>
     ensures found { IfSome result (λ x. (words.now ≡ fit_text x.0 ++ x.1.now) × IsSpelledFit x.0
         × IsCutAt 32 x.1.now) }
@@ -108,19 +108,19 @@ fn next_fit(words: &[u8]) -> Option<(Fit, &[u8])>
         → IsSpelledFit fit → IsCutAt 32 rest → words.now ≡ fit_text fit ++ rest
         → IsSomeAnd result (λ x. (x.0 ≡ fit) × (x.1.now ≡ rest)) }
 {
-    let (kind, rest) = split_once(b' ', behind(b" ", words)?)?;
+    let (kind, rest) = split_once(b' ', after_prefix(b" ", words)?)?;
     let kind = read_kind(kind)?;
     let (most, rest) = cut(b' ', rest);
     let most = Kg(read_number(most)?);
     Some((Fit { kind, most }, rest))
 }
 
-/// The position of these words and these kinds and masses.
+/// The position with these words and these kinds and masses.
 fn position_of(words: Words<'_>, fits: Vec<Fit>) -> Option<Position>
     ensures found { IfSome result (λ q. (words.entry.bulk ≡ q.bulk) × (words.entry.name.now ≡ q.name) × IsName q.name
         × (words.entry.compartment.now ≡ number_text q.compartment) × (q.compartment ≤ 9)
         × (words.entry.influence.now ≡ signed_text q.influence) × IsSignedNumber q.influence
-        × (q.fits ≡ fits.items) × HasItsKinds q.bulk q.fits) }
+        × (q.fits ≡ fits.items) × NamesKindsUnlessBulk q.bulk q.fits) }
     ensures read_back { (q : Position) → IsSpelledPosition q → words.entry.bulk ≡ q.bulk → words.entry.name.now ≡ q.name
         → words.entry.compartment.now ≡ number_text q.compartment → words.entry.influence.now ≡ signed_text q.influence
         → fits.items ≡ q.fits → result ≡ Some q }

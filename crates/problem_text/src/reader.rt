@@ -1,11 +1,11 @@
 ghost use Rattle.std.specs.Prelude.{◌≡◌, ◌∷◌, ◌++◌, [], All, codes, IfOk, IfErr, OnOk, MatchResult, None};
-ghost use Rattle.hold_limits.specs.declared.parts.Position.{Position};
+ghost use Rattle.hold_parts.specs.declared.parts.Position.{Position};
 ghost use Rattle.problem_text.specs.Cuts.{Avoids};
 ghost use Rattle.hold_limits.specs.Problem.{Problem};
 ghost use Rattle.hold_limits.specs.Faults.{IsLawful, IsWellSpelled, hold_fault, task_fault};
 ghost use Rattle.problem_text.specs.TaskText.{Spells};
 ghost use Rattle.problem_text.specs.Refusals.{IsRefused};
-ghost use Rattle.problem_text.specs.Places.{keep_problem};
+ghost use Rattle.problem_text.specs.PositionNumbers.{keep_problem};
 ghost use Rattle.problem_text.specs.Parts.{AreSections, problem_of_parts};
 ghost use Rattle.problem_text.specs.Reading.{IsFaultOf};
 
@@ -15,27 +15,27 @@ use crate::line_kinds::{
 };
 use crate::lines::Lines;
 use crate::names::Names;
-use crate::parts::{Indices, Parts, Sections};
+use crate::parts::{Parts, Sections};
 use crate::sections::read_section;
 use crate::single_lines::{expect_line, next_band, next_index};
 use desk_base::NoMemory;
 use hold_limits::{Hold, Position, Task};
+use hold_parts::Indices;
 use std::alloc::Global;
 
-/// Reads the task that the text spells. One LF ends each line, and one space parts two words of it.
+/// Reads the task that the text spells. Each line ends with one LF, and its words are separated by one space.
 ///
 /// A text that spells no task is refused with the number of its first wrong line, or for its early end. One that
-/// spells a task which is not lawful is refused with the fault of the hold, or else with that of the task. A text
-/// has one fault at most, as [`reading_laws`](crate::reading_laws) says. The time grows with the length of the text,
-/// and for each name in it with the logarithm of the number of positions.
+/// spells a task which is not lawful is refused with the fault of the hold, or else with that of the task. Each text
+/// has exactly one answer, as [`reading_laws`](crate::reading_laws) says. The time is linear in the length of the
+/// text, with a factor for each name that is logarithmic in the number of positions.
 pub fn read_task(alloc: Global, text: &[u8]) -> Result<Task, TextFault>
     ensures read { IfOk result (λ task. Spells text.now task × IsLawful task) }
     ensures refused { IfErr result (IsRefused text.now) }
     ensures complete { (t : Problem) → Spells text.now t → hold_fault t.hold ≡ None → task_fault t ≡ None
         → MatchResult result (λ task. task ≡ t) (λ fault. fault ≡ TextFault.NoMemory) }
 {
-    let parts = read_parts(alloc, text)?;
-    task_of(parts)
+    task_of(read_parts(alloc, text)?)
 }
 
 /// The parts that the lines of the text spell.
@@ -55,19 +55,18 @@ fn read_parts(alloc: Global, text: &[u8]) -> Result<Parts, TextFault>
     if !lines.rest.is_empty() {
         return Err(TextFault::Line(lines.number));
     }
-    let indices = Indices {
-        base,
-        window,
-        ideal,
-    };
     Ok(Parts {
         positions,
         sections,
-        indices,
+        indices: Indices {
+            base,
+            window,
+            ideal,
+        },
     })
 }
 
-/// What the lines behind those of the positions say, up to those of the indices.
+/// What the lines after those of the positions say, up to those of the indices.
 fn read_sections(
     alloc: Global,
     positions: &[Position],
@@ -91,7 +90,7 @@ fn read_sections(
     })
 }
 
-/// The task of the parts, or the first fault of its hold, or else of itself.
+/// The task with these parts, or the first fault of its hold, or else of the task.
 fn task_of(parts: Parts) -> Result<Task, TextFault>
     requires { IsWellSpelled (problem_of_parts parts).hold }
     ensures made { IfOk result (λ task. (task ≡ problem_of_parts parts) × IsLawful task) }
@@ -109,11 +108,8 @@ fn task_of(parts: Parts) -> Result<Task, TextFault>
         items,
         loose,
     } = sections;
-    let hold = match Hold::new(positions, excludes, combined, cumulative) {
-        Ok(hold) => hold,
-        Err(fault) => return Err(TextFault::Hold(fault)),
-    };
-    let made = Task::new(
+    let hold = Hold::new(positions, excludes, combined, cumulative).map_err(TextFault::Hold)?;
+    Task::new(
         hold,
         items,
         loose,
@@ -122,11 +118,8 @@ fn task_of(parts: Parts) -> Result<Task, TextFault>
         indices.window.high,
         indices.ideal.low,
         indices.ideal.high,
-    );
-    match made {
-        Ok(task) => Ok(task),
-        Err(fault) => Err(TextFault::Task(fault)),
-    }
+    )
+    .map_err(TextFault::Task)
 }
 
 #[cfg(test)]

@@ -6,7 +6,7 @@ use crate::lines::Lines;
 use desk_base::NoMemory;
 use std::alloc::Global;
 
-/// A kind of line, of which a task has any number in a row.
+/// A kind of line that a task may have any number of, in a row.
 pub trait LineReader {
     ghost use Rattle.std.specs.Prelude.{◌≢◌, ℕ, List, IfOk, IfSome, IfNone};
     ghost use Rattle.problem_text.specs.Sections.{Says};
@@ -20,7 +20,7 @@ pub trait LineReader {
 
     ghost keep: { Self → Self.Entry → Self.Entry };
 
-    /// What the line says, and None exactly where it is no line of this kind.
+    /// What the line says. None exactly where the line is not of this kind.
     fn read(&self, alloc: Global, line: &[u8]) -> Result<Option<Self::Entry>, NoMemory>
         ensures found { IfOk result (λ r. IfSome r (λ got.
             Says (text self.now) (spelled self.now) (keep self.now) line.now got)) }
@@ -29,7 +29,7 @@ pub trait LineReader {
 
 ghost use Rattle.problem_text.specs.Sections.{IsSection};
 
-/// What the lines up to the first of another kind say. They are stepped over.
+/// What the lines before the first of another kind say. They are consumed.
 pub fn read_section<R: LineReader>(
     alloc: Global,
     reader: &R,

@@ -1,4 +1,4 @@
-//! Readers of the lines that a task has once. Each steps over its line.
+//! Readers of the lines that a task has once. Each consumes its line.
 
 ghost use Rattle.std.specs.Prelude.{◌≡◌, ◌+◌, ◌∷◌, ◌++◌, OnOk, IfOk, IfErr};
 ghost use Rattle.mass_units.specs.Spelling.{index_text, IsIndex};
@@ -7,10 +7,9 @@ ghost use Rattle.problem_text.specs.Reading.{IsStopped, IsIndexLine, IsBandLine}
 use crate::fault::TextFault;
 use crate::line_readers::{read_band, read_index};
 use crate::lines::Lines;
-use crate::parts::Band;
-use mass_units::Ticks;
+use mass_units::{Band, Ticks};
 
-/// Steps over the line with this text.
+/// Consumes the line with this text.
 pub fn expect_line(expected: &[u8], lines: &mut Lines<'_>) -> Result<(), TextFault>
     ensures read { OnOk result (lines.old.rest.now ≡ expected.now ++ 10 ∷ lines.new.rest.now) }
     ensures counted { OnOk result (lines.new.number ≡ lines.old.number + 1) }
@@ -24,7 +23,7 @@ pub fn expect_line(expected: &[u8], lines: &mut Lines<'_>) -> Result<(), TextFau
     Ok(())
 }
 
-/// The index of the next line, which has the keyword and its space in front.
+/// The index on the next line, which begins with the keyword and its space.
 pub fn next_index(keyword: &[u8], lines: &mut Lines<'_>) -> Result<Ticks, TextFault>
     ensures read { IfOk result (λ index.
         (lines.old.rest.now ≡ (keyword.now ++ index_text index.0) ++ 10 ∷ lines.new.rest.now)
@@ -33,13 +32,10 @@ pub fn next_index(keyword: &[u8], lines: &mut Lines<'_>) -> Result<Ticks, TextFa
     ensures refused { IfErr result (IsStopped lines.old.rest.now lines.old.number (IsIndexLine keyword.now)) }
 {
     let number = lines.number;
-    match read_index(keyword, lines.next_line()?) {
-        Some(index) => Ok(index),
-        None => Err(TextFault::Line(number)),
-    }
+    read_index(keyword, lines.next_line()?).ok_or(TextFault::Line(number))
 }
 
-/// The ends on the next line, which has the keyword and its space in front.
+/// The band on the next line, which begins with the keyword and its space.
 pub fn next_band(keyword: &[u8], lines: &mut Lines<'_>) -> Result<Band, TextFault>
     ensures read { IfOk result (λ band. (lines.old.rest.now
         ≡ (keyword.now ++ (index_text band.low.0 ++ 32 ∷ index_text band.high.0)) ++ 10 ∷ lines.new.rest.now)
@@ -48,8 +44,5 @@ pub fn next_band(keyword: &[u8], lines: &mut Lines<'_>) -> Result<Band, TextFaul
     ensures refused { IfErr result (IsStopped lines.old.rest.now lines.old.number (IsBandLine keyword.now)) }
 {
     let number = lines.number;
-    match read_band(keyword, lines.next_line()?) {
-        Some(band) => Ok(band),
-        None => Err(TextFault::Line(number)),
-    }
+    read_band(keyword, lines.next_line()?).ok_or(TextFault::Line(number))
 }

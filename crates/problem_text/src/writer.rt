@@ -1,9 +1,9 @@
-//! The text of a task, written.
+//! The writer of a task's text.
 
 ghost use Rattle.std.specs.Prelude.{◌≡◌, ◌∷◌, [], ◌++◌, All, IfOk, OnOk, map};
-ghost use Rattle.hold_limits.specs.declared.parts.Item.{Item};
-ghost use Rattle.hold_limits.specs.declared.parts.Position.{Position};
-ghost use Rattle.hold_limits.specs.Spellings.{IsName, IsUldId};
+ghost use Rattle.hold_parts.specs.declared.parts.Item.{Item};
+ghost use Rattle.hold_parts.specs.declared.parts.Position.{Position};
+ghost use Rattle.hold_parts.specs.Spellings.{IsName, IsUldId};
 ghost use Rattle.problem_text.specs.TaskText.{text_of, position_line, exclude_line, combined_line, cumulative_line, item_line, loose_line, base_line, window_line, ideal_line, Spells};
 
 use crate::line_writers::{
@@ -11,7 +11,7 @@ use crate::line_writers::{
     push_loose, push_position,
 };
 use desk_base::NoMemory;
-use hold_limits::{Combined, Cumulative, Item, Loose, Position, Task};
+use hold_limits::{Hold, Item, Loose, Position, Task};
 use std::alloc::Global;
 
 fn push_positions(alloc: Global, text: &mut Vec<u8>, positions: &[Position]) -> Result<(), NoMemory>
@@ -25,46 +25,32 @@ fn push_positions(alloc: Global, text: &mut Vec<u8>, positions: &[Position]) -> 
     Ok(())
 }
 
-fn push_excludes(
-    text: &mut Vec<u8>,
-    positions: &[Position],
-    excludes: &[(u8, u8)],
-) -> Result<(), NoMemory>
-    ensures { OnOk result
-        (text.new.items ≡ text.old.items ++ text_of (map (exclude_line positions.now) excludes.now)) }
+fn push_excludes(text: &mut Vec<u8>, hold: &Hold) -> Result<(), NoMemory>
+    ensures { OnOk result (text.new.items
+        ≡ text.old.items ++ text_of (map (exclude_line hold.now.positions) hold.now.excludes)) }
 {
-    for pair in excludes {
-        push_exclude(text, positions, *pair)?;
+    for pair in hold.excludes() {
+        push_exclude(text, hold, *pair)?;
     }
     Ok(())
 }
 
-fn push_all_combined(
-    alloc: Global,
-    text: &mut Vec<u8>,
-    positions: &[Position],
-    combined: &[Combined],
-) -> Result<(), NoMemory>
-    ensures { OnOk result
-        (text.new.items ≡ text.old.items ++ text_of (map (combined_line positions.now) combined.now)) }
+fn push_all_combined(alloc: Global, text: &mut Vec<u8>, hold: &Hold) -> Result<(), NoMemory>
+    ensures { OnOk result (text.new.items
+        ≡ text.old.items ++ text_of (map (combined_line hold.now.positions) hold.now.combined)) }
 {
-    for limit in combined {
-        push_combined(alloc, text, positions, limit)?;
+    for limit in hold.combined() {
+        push_combined(alloc, text, hold, limit)?;
     }
     Ok(())
 }
 
-fn push_all_cumulative(
-    alloc: Global,
-    text: &mut Vec<u8>,
-    positions: &[Position],
-    cumulative: &[Cumulative],
-) -> Result<(), NoMemory>
-    ensures { OnOk result
-        (text.new.items ≡ text.old.items ++ text_of (map (cumulative_line positions.now) cumulative.now)) }
+fn push_all_cumulative(alloc: Global, text: &mut Vec<u8>, hold: &Hold) -> Result<(), NoMemory>
+    ensures { OnOk result (text.new.items
+        ≡ text.old.items ++ text_of (map (cumulative_line hold.now.positions) hold.now.cumulative)) }
 {
-    for limit in cumulative {
-        push_cumulative(alloc, text, positions, limit)?;
+    for limit in hold.cumulative() {
+        push_cumulative(alloc, text, hold, limit)?;
     }
     Ok(())
 }
@@ -83,14 +69,14 @@ fn push_items(alloc: Global, text: &mut Vec<u8>, items: &[Item]) -> Result<(), N
 fn push_all_loose(
     alloc: Global,
     text: &mut Vec<u8>,
-    positions: &[Position],
+    hold: &Hold,
     loose: &[Loose],
 ) -> Result<(), NoMemory>
     ensures { OnOk result
-        (text.new.items ≡ text.old.items ++ text_of (map (loose_line positions.now) loose.now)) }
+        (text.new.items ≡ text.old.items ++ text_of (map (loose_line hold.now.positions) loose.now)) }
 {
     for load in loose {
-        push_loose(alloc, text, positions, load)?;
+        push_loose(alloc, text, hold, load)?;
     }
     Ok(())
 }
@@ -113,11 +99,11 @@ pub fn write_task(alloc: Global, task: &Task) -> Result<Vec<u8>, NoMemory>
     let mut text = Vec::new(alloc);
     text.extend_from_slice(b"TASK 1\n")?;
     push_positions(alloc, &mut text, hold.positions())?;
-    push_excludes(&mut text, hold.positions(), hold.excludes())?;
-    push_all_combined(alloc, &mut text, hold.positions(), hold.combined())?;
-    push_all_cumulative(alloc, &mut text, hold.positions(), hold.cumulative())?;
+    push_excludes(&mut text, hold)?;
+    push_all_combined(alloc, &mut text, hold)?;
+    push_all_cumulative(alloc, &mut text, hold)?;
     push_items(alloc, &mut text, task.items())?;
-    push_all_loose(alloc, &mut text, hold.positions(), task.loose())?;
+    push_all_loose(alloc, &mut text, hold, task.loose())?;
     push_indices(alloc, &mut text, task)?;
     text.extend_from_slice(b"END\n")?;
     Ok(text)

@@ -21,7 +21,7 @@ ideal -0.00001 50.00000
 END
 ";
 
-/// The task's text, where this line stands for that of the number.
+/// The task's text, with this line in place of the line with the number.
 fn edited(alloc: Global, number: usize, line: &[u8]) -> Result<Vec<u8>, Fail> {
     let mut text = Vec::new(alloc);
     for (at, old) in TASK.split(|byte| *byte == b'\n').enumerate() {
@@ -31,6 +31,30 @@ fn edited(alloc: Global, number: usize, line: &[u8]) -> Result<Vec<u8>, Fail> {
         text.extend_from_slice(if at + 1 == number { line } else { old })?;
     }
     Ok(text)
+}
+
+/// The line so many times, with a line feed between two of them.
+fn repeated(alloc: Global, line: &[u8], times: usize) -> Result<Vec<u8>, Fail> {
+    let mut lines = Vec::new(alloc);
+    for at in 0..times {
+        if at > 0 {
+            lines.push(b'\n')?;
+        }
+        lines.extend_from_slice(line)?;
+    }
+    Ok(lines)
+}
+
+/// The fault of the task's text with so many copies of this line in place of the line with the number.
+fn fault_with(
+    alloc: Global,
+    number: usize,
+    line: &[u8],
+    times: usize,
+) -> Result<Option<TextFault>, Fail> {
+    let lines = repeated(alloc, line, times)?;
+    let text = edited(alloc, number, &lines)?;
+    Ok(read_task(alloc, &text).err())
 }
 
 #[test]
@@ -99,8 +123,8 @@ fn the_first_fault_is_named(rt: HostRuntime) -> Result<(), Fail> {
         (15, b" ", TextFault::Line(15)),
     ];
     for (number, line, fault) in table {
-        let text = edited(rt.alloc(), number, line)?;
-        assert_eq!(rt; read_task(rt.alloc(), &text).err(), Some(fault), "{number}");
+        let got = fault_with(rt.alloc(), number, line, 1)?;
+        assert!(rt; got == Some(fault), "line {number}");
     }
     Ok(())
 }
@@ -108,26 +132,14 @@ fn the_first_fault_is_named(rt: HostRuntime) -> Result<(), Fail> {
 #[test]
 fn a_text_that_stops_early_has_no_end(rt: HostRuntime) -> Result<(), Fail> {
     for length in 0..TASK.len() {
-        let fault = read_task(rt.alloc(), &TASK[..length]).err();
-        assert_eq!(rt; fault, Some(TextFault::NoEnd), "of {length} bytes");
+        let got = read_task(rt.alloc(), &TASK[..length]).err();
+        assert!(rt; got == Some(TextFault::NoEnd), "of {length} bytes");
     }
     Ok(())
 }
 
-/// The line so many times, each but the last with a line feed behind it.
-fn repeated(alloc: Global, line: &[u8], times: usize) -> Result<Vec<u8>, Fail> {
-    let mut lines = Vec::new(alloc);
-    for at in 0..times {
-        if at > 0 {
-            lines.push(b'\n')?;
-        }
-        lines.extend_from_slice(line)?;
-    }
-    Ok(lines)
-}
-
 #[test]
-fn each_fault_of_a_hold_is_named_with_its_place(rt: HostRuntime) -> Result<(), Fail> {
+fn each_fault_of_a_hold_is_named_with_its_index(rt: HostRuntime) -> Result<(), Fail> {
     let table: [(usize, &[u8], usize, HoldFault); 8] = [
         (4, b"bulk 51 5 900", 65, HoldFault::Positions(67)),
         (4, b"bulk 51 5 900", 2, HoldFault::SameName(3)),
@@ -144,16 +156,14 @@ fn each_fault_of_a_hold_is_named_with_its_place(rt: HostRuntime) -> Result<(), F
         ),
     ];
     for (number, line, times, fault) in table {
-        let lines = repeated(rt.alloc(), line, times)?;
-        let text = edited(rt.alloc(), number, &lines)?;
-        let got = read_task(rt.alloc(), &text).err();
-        assert_eq!(rt; got, Some(TextFault::Hold(fault)), "{number}");
+        let got = fault_with(rt.alloc(), number, line, times)?;
+        assert!(rt; got == Some(TextFault::Hold(fault)), "line {number}");
     }
     Ok(())
 }
 
 #[test]
-fn each_fault_of_a_task_is_named_with_its_place(rt: HostRuntime) -> Result<(), Fail> {
+fn each_fault_of_a_task_is_named_with_its_index(rt: HostRuntime) -> Result<(), Fail> {
     let table: [(usize, &[u8], usize, TaskFault); 5] = [
         (9, b"item AKE10001XX 1000", 49, TaskFault::TooManyItems),
         (9, b"item AKE10001XX 1000", 2, TaskFault::DuplicateId(1)),
@@ -162,10 +172,8 @@ fn each_fault_of_a_task_is_named_with_its_place(rt: HostRuntime) -> Result<(), F
         (10, b"loose 51 20001", 1, TaskFault::LooseTooHeavy(0)),
     ];
     for (number, line, times, fault) in table {
-        let lines = repeated(rt.alloc(), line, times)?;
-        let text = edited(rt.alloc(), number, &lines)?;
-        let got = read_task(rt.alloc(), &text).err();
-        assert_eq!(rt; got, Some(TextFault::Task(fault)), "{number}");
+        let got = fault_with(rt.alloc(), number, line, times)?;
+        assert!(rt; got == Some(TextFault::Task(fault)), "line {number}");
     }
     Ok(())
 }

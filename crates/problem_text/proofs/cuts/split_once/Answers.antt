@@ -1,5 +1,5 @@
 use Rattle.std.proofs.Common.{arith, ap, length}
-use Rattle.problem_text.proofs.CutLemmas.{cut_at_mark, behind_first}
+use Rattle.problem_text.proofs.CutLemmas.{cut_at_mark, after_first}
 use Rattle.problem_text.proofs.cuts.split_once.Goals as goal
 
 pub returns-in-empty-clause-read_back : goal.returns-in-empty-clause-read_back
@@ -8,4 +8,4 @@ returns-in-empty-clause-read_back c =
 
 pub returns-in-len1-up-clause-read_back : goal.returns-in-len1-up-clause-read_back
 returns-in-len1-up-clause-read_back c =
-    λ front rest avoids e. let same = cut_at_mark c.args.mark c.args.text.now c.cut.result.0.now c.cut.result.1.now front rest c.cut.ensures.whole c.cut.ensures.front c.cut.ensures.rest avoids e in (same.0, behind_first c.args.mark c.cut.result.1.now rest same.1)
+    λ front rest avoids e. let same = cut_at_mark c.args.mark c.args.text.now c.cut.result.0.now c.cut.result.1.now front rest c.cut.ensures.whole c.cut.ensures.front c.cut.ensures.rest avoids e in (same.0, after_first c.args.mark c.cut.result.1.now rest same.1)

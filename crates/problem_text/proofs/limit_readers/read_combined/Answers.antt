@@ -6,8 +6,8 @@ use Rattle.problem_text.proofs.RunLemmas.{run_text-begins}
 use Rattle.problem_text.proofs.LimitLemmas.{names_are_read, combined_line-is, run_is_some, some_in_run}
 use Rattle.problem_text.proofs.limit_readers.read_combined.Goals as goal
 
-pub returns-in-Some-2-clause-found : goal.returns-in-Some-2-clause-found
-returns-in-Some-2-clause-found c =
+pub returns-clause-found : goal.returns-clause-found
+returns-clause-found c =
     let ps = c.args.names.now.positions.now in
     let read = rw c.in-Some-2.is at c.in_ok-places.ensures.found in
     let line = c.in-Some.ensures.found in
@@ -19,11 +19,11 @@ returns-in-Some-2-clause-found c =
       is = line.0 ∙ ap (λ t. codes "combined " ++ (number_text c.in-Some.most.0 ++ t)) read.3 ∙ sym (combined_line-is ps (record { places = read.0; most = c.in-Some.most }));
     }
 
-pub returns-in-None-clause-none : goal.returns-in-None-clause-none
-returns-in-None-clause-none c =
+pub returns-in_default-2-clause-none : goal.returns-in_default-2-clause-none
+returns-in_default-2-clause-none c =
     λ limit s e.
     let ps = c.args.names.now.positions.now in
-    let none = rw c.in-None.is at c.in_ok-places.ensures.none in
+    let none = rw c.in_default-2.is at c.in_ok-places.ensures.none in
     let begins = run_text-begins (name_text ps) (IsNamed ps) (names_are_read ps c.args.names.now.clear) limit.places in
     let line = c.in-Some.ensures.read_back limit.most.0 (run_text (name_text ps) limit.places) s.most begins (run_is_some ps limit.places s.some) (e ∙ combined_line-is ps limit) in
     none limit.places s.places line.1

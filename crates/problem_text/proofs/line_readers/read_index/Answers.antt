@@ -7,5 +7,5 @@ use Rattle.problem_text.proofs.line_readers.read_index.Goals as goal
 
 pub returns-clause-none : goal.returns-clause-none
 returns-clause-none c =
-    none_when _ (λ h. let rest = append_cancel_left c.args.keyword.now c.in_ok-behind.field-0.now (index_text h.0) (sym c.in_ok-behind.ensures.found ∙ h.2) in
+    none_when _ (λ h. let rest = append_cancel_left c.args.keyword.now c.in_ok-after_prefix.field-0.now (index_text h.0) (sym c.in_ok-after_prefix.ensures.found ∙ h.2) in
     (record { 0 = h.0 }, c.ok.ensures.value ∙ ap result_ok (c.read_ticks5.ensures.read_back h.0 h.1 rest)))

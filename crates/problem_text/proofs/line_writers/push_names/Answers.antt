@@ -3,8 +3,8 @@ use Rattle.problem_text.specs.WordRuns.{name_text}
 use Rattle.problem_text.proofs.WriterLemmas.{run_grows}
 use Rattle.problem_text.proofs.line_writers.push_names.Goals as goal
 
-pub loop-place-preserved : goal.loop-place-preserved
-loop-place-preserved c =
-    run_grows (name_text c.args.positions.now) c.args.places.now c.loop-place.place-index 0 c.args.text.now.items c.loop-place.text.items _
-    c.loop-place-test.true c.loop-place.invariant
-    (c.in_ok-push_word.ensures ∙ ap (λ name. c.loop-place.text.items ++ 32 ∷ name) c.name_of.ensures)
+pub loop-number-preserved : goal.loop-number-preserved
+loop-number-preserved c =
+    run_grows (name_text c.args.hold.now.positions) c.args.numbers.now c.loop-number.number-index 0 c.args.text.now.items c.loop-number.text.items _
+    c.loop-number-test.true c.loop-number.invariant
+    (c.in_ok-push_word.ensures ∙ ap (λ name. c.loop-number.text.items ++ 32 ∷ name) c.name_at.ensures)

@@ -12,19 +12,19 @@ pub returns-in_default-clause-none : goal.returns-in_default-clause-none
 returns-in_default-clause-none c =
     λ q s e. c.in_default.ensures.read_back q.bulk q.name (number_text q.compartment) (signed_text q.influence) (run_text fit_text q.fits) (name_avoids 32 q.name (lit< tt) s.name) (number_text-avoids 32 q.compartment (lit< tt)) (signed_text-avoids 32 q.influence (lit< tt)) (fits_begin q.fits) (e ∙ position_line-is q)
 
-pub returns-in-Some-2-clause-found : goal.returns-in-Some-2-clause-found
-returns-in-Some-2-clause-found c =
+pub returns-clause-found : goal.returns-clause-found
+returns-clause-found c =
     let read = rw c.in-Some-2.is at c.in_ok-fits.ensures.found in
     IfSome_then c.position_of.result c.position_of.ensures.found (λ q h. position_found c.args.line.now c.in-Some.words.name.now c.in-Some.words.compartment.now c.in-Some.words.influence.now c.in-Some.words.fits.now c.in-Some.words.bulk c.in-Some-2.fits.items q c.in-Some.ensures.found read.0 read.1 h)
 
-pub returns-in-Some-2-clause-none : goal.returns-in-Some-2-clause-none
-returns-in-Some-2-clause-none c =
+pub returns-clause-none : goal.returns-clause-none
+returns-clause-none c =
     none_unless c.position_of.result (λ q s e.
     let words = c.in-Some.ensures.read_back q.bulk q.name (number_text q.compartment) (signed_text q.influence) (run_text fit_text q.fits) (name_avoids 32 q.name (lit< tt) s.name) (number_text-avoids 32 q.compartment (lit< tt)) (signed_text-avoids 32 q.influence (lit< tt)) (fits_begin q.fits) (e ∙ position_line-is q) in
     let read = rw c.in-Some-2.is at (c.in_ok-fits.ensures.read_back q.fits (spelled_fits q s) words.4) in
     c.position_of.ensures.read_back q s words.0 words.1 words.2 words.3 read)
 
-pub returns-in-None-clause-none : goal.returns-in-None-clause-none
-returns-in-None-clause-none c =
+pub returns-in_default-2-clause-none : goal.returns-in_default-2-clause-none
+returns-in_default-2-clause-none c =
     λ q s e. let words = c.in-Some.ensures.read_back q.bulk q.name (number_text q.compartment) (signed_text q.influence) (run_text fit_text q.fits) (name_avoids 32 q.name (lit< tt) s.name) (number_text-avoids 32 q.compartment (lit< tt)) (signed_text-avoids 32 q.influence (lit< tt)) (fits_begin q.fits) (e ∙ position_line-is q) in
-    rw c.in-None.is at (c.in_ok-fits.ensures.read_back q.fits (spelled_fits q s) words.4)
+    rw c.in_default-2.is at (c.in_ok-fits.ensures.read_back q.fits (spelled_fits q s) words.4)

@@ -4,8 +4,8 @@ use Rattle.std.specs.Bool.{◌==◌}
 use Rattle.std.proofs.lemmas.Bool.Decides.{nat_tests}
 use Rattle.std.proofs.lemmas.Result.{err_from_is_err_and}
 use Rattle.problem_text.specs.Refusals.IsRefused.{no_memory}
-use Rattle.problem_text.specs.declared.parts.Indices.{Indices}
-use Rattle.problem_text.proofs.ReadLemmas.{one_line, IsReadTo, AreIndices, task_of, spelled_task, kept_task, refused_header, refused_base, refused_window, refused_ideal, read_to_end, refused_end, all_read, refused_behind, read_spells}
+use Rattle.hold_parts.specs.declared.parts.Indices.{Indices}
+use Rattle.problem_text.proofs.ReadLemmas.{one_line, IsReadTo, AreIndices, task_of, spelled_task, kept_task, refused_header, refused_base, refused_window, refused_ideal, read_to_end, refused_end, all_read, refused_after, read_spells}
 use Rattle.problem_text.proofs.reader.read_parts.Goals as goal
 
 pub returns-in_err-expect_line-clause-refused : goal.returns-in_err-expect_line-clause-refused
@@ -108,7 +108,7 @@ returns-then-not-is_empty-clause-refused c =
     let t = task_of c.args.text.now c.read_sections.new.lines.rest.now c.read_sections.new.lines.number c.in_ok-positions.positions.items c.in_ok-sections.sections r at in
     let spelled = spelled_task c.args.text.now c.read_sections.new.lines.rest.now c.read_sections.new.lines.number c.in_ok-positions.positions.items c.in_ok-sections.sections r at right in
     let place = all_read c.args.text.now c.read_sections.new.lines.rest.now c.read_sections.new.lines.number c.in_ok-positions.positions.items c.in_ok-sections.sections r at c.next_band-2.new.lines.rest.now c.expect_line-2.new.lines.rest.now c.next_band-2.new.lines.number c.expect_line-2.new.lines.number end c.in_ok-expect_line-2.ensures.read c.in_ok-expect_line-2.ensures.counted in
-    refused_behind c.args.text.now c.expect_line-2.new.lines.rest.now c.expect_line-2.new.lines.number t spelled place (λ none. false≢true (sym c.if-not-is_empty.true ∙ c.is_empty.ensures ∙ eq-eqb (length c.expect_line-2.new.lines.rest.now) 0 none))
+    refused_after c.args.text.now c.expect_line-2.new.lines.rest.now c.expect_line-2.new.lines.number t spelled place (λ none. false≢true (sym c.if-not-is_empty.true ∙ c.is_empty.ensures ∙ eq-eqb (length c.expect_line-2.new.lines.rest.now) 0 none))
 
 pub returns-clause-read : goal.returns-clause-read
 returns-clause-read c =

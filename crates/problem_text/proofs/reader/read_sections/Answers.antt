@@ -1,7 +1,7 @@
 use Rattle.std.proofs.Common.{List, subst}
-use Rattle.hold_limits.specs.declared.parts.Position.{Position}
+use Rattle.hold_parts.specs.declared.parts.Position.{Position}
 use Rattle.problem_text.specs.TaskText.{exclude_line, combined_line, cumulative_line, loose_line, IsSpelledExclude, IsSpelledCombined, IsSpelledCumulative, IsSpelledLoose}
-use Rattle.problem_text.specs.Places.{keep_pair, keep_combined, keep_cumulative, keep_loose}
+use Rattle.problem_text.specs.PositionNumbers.{keep_pair, keep_combined, keep_cumulative, keep_loose}
 use Rattle.problem_text.specs.Sections.{IsSection}
 use Rattle.problem_text.proofs.reader.read_sections.Goals as goal
 
@@ -19,10 +19,10 @@ returns c =
     let Counted : List Position → Type 0 = λ ps. IsSection (cumulative_line ps) (IsSpelledCumulative ps) keep_cumulative l2.rest.now l3.rest.now l2.number l3.number c.in_ok-cumulative.cumulative.items in
     let Loads : List Position → Type 0 = λ ps. IsSection (loose_line ps) (IsSpelledLoose ps) keep_loose l4.rest.now l5.rest.now l4.number l5.number c.in_ok-loose.loose.items in
     record {
-      behind_excludes = l1.rest.now;
-      behind_combined = l2.rest.now;
-      behind_cumulative = l3.rest.now;
-      behind_items = l4.rest.now;
+      after_excludes = l1.rest.now;
+      after_combined = l2.rest.now;
+      after_cumulative = l3.rest.now;
+      after_items = l4.rest.now;
       excludes_end = l1.number;
       combined_end = l2.number;
       cumulative_end = l3.number;

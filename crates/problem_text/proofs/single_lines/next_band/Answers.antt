@@ -1,7 +1,6 @@
 use Rattle.std.proofs.lemmas.Result.{err_from_is_err_and}
 use Rattle.problem_text.specs.Reading.{IsBandLine}
-use Rattle.problem_text.specs.Reading.IsStopped.{at_line}
-use Rattle.problem_text.proofs.SectionLemmas.{stopped_early}
+use Rattle.problem_text.proofs.SectionLemmas.{stopped_early, stopped_at_line}
 use Rattle.problem_text.proofs.single_lines.next_band.Goals as goal
 
 pub returns-in_err-next_line-clause-refused : goal.returns-in_err-next_line-clause-refused
@@ -9,6 +8,6 @@ returns-in_err-next_line-clause-refused c =
     let p = err_from_is_err_and c.from_residual.result c.from_residual.ensures.1 in
     rw (p.1, p.2) (stopped_early c.args.lines.now.rest.now c.args.lines.now.number (IsBandLine c.args.keyword.now) c.in_err-next_line.field-0.0 c.in_err-next_line.ensures.none)
 
-pub returns-in-None-clause-refused : goal.returns-in-None-clause-refused
-returns-in-None-clause-refused c =
-    at_line c.in_ok-next_line.field-0.now c.next_line.new.self.rest.now c.in_ok-next_line.ensures.found.0 c.in_ok-next_line.ensures.found.1 c.in-None.ensures.none
+pub returns-clause-refused : goal.returns-clause-refused
+returns-clause-refused c =
+    rw c.ok_or.ensures.value (stopped_at_line c.args.lines.now.rest.now c.args.lines.now.number (IsBandLine c.args.keyword.now) c.in_ok-next_line.field-0.now c.next_line.new.self.rest.now c.read_band.result c.in_ok-next_line.ensures.found.0 c.in_ok-next_line.ensures.found.1 c.read_band.ensures.none)

@@ -3,4 +3,4 @@ use Rattle.problem_text.specs.TaskText.{text_of, combined_line}
 use Rattle.problem_text.proofs.writer.push_all_combined.Given as goal
 
 abbrev pub invariant-loop-limit : goal.invariant-loop-limit
-invariant-loop-limit l = l.text.items ≡ l.initial.text.items ++ text_of (map (combined_line l.positions) (take l.limit-index l.combined))
+invariant-loop-limit l = l.text.items ≡ l.initial.text.items ++ text_of (map (combined_line l.hold.positions) (take l.limit-index l.limit-items))

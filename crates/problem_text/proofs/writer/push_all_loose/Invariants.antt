@@ -3,4 +3,4 @@ use Rattle.problem_text.specs.TaskText.{text_of, loose_line}
 use Rattle.problem_text.proofs.writer.push_all_loose.Given as goal
 
 abbrev pub invariant-loop-load : goal.invariant-loop-load
-invariant-loop-load l = l.text.items ≡ l.initial.text.items ++ text_of (map (loose_line l.positions) (take l.load-index l.loose))
+invariant-loop-load l = l.text.items ≡ l.initial.text.items ++ text_of (map (loose_line l.hold.positions) (take l.load-index l.loose))

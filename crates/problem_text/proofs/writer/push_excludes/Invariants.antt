@@ -3,4 +3,4 @@ use Rattle.problem_text.specs.TaskText.{text_of, exclude_line}
 use Rattle.problem_text.proofs.writer.push_excludes.Given as goal
 
 abbrev pub invariant-loop-pair : goal.invariant-loop-pair
-invariant-loop-pair l = l.text.items ≡ l.initial.text.items ++ text_of (map (exclude_line l.positions) (take l.pair-index l.excludes))
+invariant-loop-pair l = l.text.items ≡ l.initial.text.items ++ text_of (map (exclude_line l.hold.positions) (take l.pair-index l.pair-items))

@@ -1,5 +1,5 @@
-use Rattle.hold_limits.specs.declared.parts.Item.{Item}
-use Rattle.hold_limits.specs.Spellings.{IsUldId}
+use Rattle.hold_parts.specs.declared.parts.Item.{Item}
+use Rattle.hold_parts.specs.Spellings.{IsUldId}
 use Rattle.problem_text.specs.TaskText.{item_line}
 use Rattle.problem_text.proofs.WriterLemmas.{lines_grow_of}
 use Rattle.problem_text.proofs.writer.push_items.Goals as goal

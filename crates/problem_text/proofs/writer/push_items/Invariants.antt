@@ -1,7 +1,7 @@
 use Rattle.std.proofs.Common.{◌≡◌, ◌++◌, take, map, All}
 use Rattle.problem_text.specs.TaskText.{text_of, item_line}
-use Rattle.hold_limits.specs.declared.parts.Item.{Item}
-use Rattle.hold_limits.specs.Spellings.{IsUldId}
+use Rattle.hold_parts.specs.declared.parts.Item.{Item}
+use Rattle.hold_parts.specs.Spellings.{IsUldId}
 use Rattle.problem_text.proofs.writer.push_items.Given as goal
 
 abbrev pub invariant-loop-item : goal.invariant-loop-item

@@ -1,5 +1,5 @@
-use Rattle.hold_limits.specs.declared.parts.Position.{Position}
-use Rattle.hold_limits.specs.Spellings.{IsName}
+use Rattle.hold_parts.specs.declared.parts.Position.{Position}
+use Rattle.hold_parts.specs.Spellings.{IsName}
 use Rattle.problem_text.specs.TaskText.{position_line}
 use Rattle.problem_text.proofs.WriterLemmas.{lines_grow_of}
 use Rattle.problem_text.proofs.writer.push_positions.Goals as goal

@@ -1,7 +1,7 @@
 use Rattle.std.proofs.Common.{◌≡◌, ◌++◌, take, map, All}
 use Rattle.problem_text.specs.TaskText.{text_of, position_line}
-use Rattle.hold_limits.specs.declared.parts.Position.{Position}
-use Rattle.hold_limits.specs.Spellings.{IsName}
+use Rattle.hold_parts.specs.declared.parts.Position.{Position}
+use Rattle.hold_parts.specs.Spellings.{IsName}
 use Rattle.problem_text.proofs.writer.push_positions.Given as goal
 
 abbrev pub invariant-loop-position : goal.invariant-loop-position

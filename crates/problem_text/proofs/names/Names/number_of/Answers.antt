@@ -1,6 +1,6 @@
 use Rattle.std.proofs.Common.{◌∙◌}
 use Rattle.problem_text.proofs.NameLemmas.{table-found, table-none}
-use Rattle.problem_text.proofs.names.Names.place_of.Goals as goal
+use Rattle.problem_text.proofs.names.Names.number_of.Goals as goal
 
 pub returns-clause-found : goal.returns-clause-found
 returns-clause-found c =

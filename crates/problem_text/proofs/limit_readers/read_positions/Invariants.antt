@@ -1,14 +1,14 @@
 use Rattle.std.proofs.Common.{◌≡◌, ◌++◌, ℕ, List, map, length, All}
 use Rattle.problem_text.specs.Cuts.{IsCutAt}
 use Rattle.problem_text.specs.TaskText.{IsNamed}
-use Rattle.problem_text.specs.Places.{byte_of}
+use Rattle.problem_text.specs.PositionNumbers.{byte_of}
 use Rattle.problem_text.specs.WordRuns.{run_text, name_text}
-use Rattle.problem_text.proofs.limit_readers.read_places.Given as goal
+use Rattle.problem_text.proofs.limit_readers.read_positions.Given as goal
 
 abbrev pub invariant-loop-rest : goal.invariant-loop-rest
 invariant-loop-rest l = record {
   said : List ℕ;
-  kept : l.places.items ≡ map byte_of said;
+  kept : l.numbers.items ≡ map byte_of said;
   named : All (IsNamed l.names.positions.now) said;
   read : l.words ≡ run_text (name_text l.names.positions.now) said ++ l.rest;
   cut : IsCutAt 32 l.rest;

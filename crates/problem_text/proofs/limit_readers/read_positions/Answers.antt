@@ -2,12 +2,12 @@ use Rattle.std.proofs.lemmas.Bool.{false≢true}
 use Rattle.std.proofs.Common.{◌∙◌, eq-eqb, ◌++◌, ◌∷◌, [], ap, sym, length}
 use Rattle.std.proofs.lemmas.List.Elements.{All-push}
 use Rattle.problem_text.specs.TaskText.{IsNamed}
-use Rattle.problem_text.specs.Places.{byte_of}
+use Rattle.problem_text.specs.PositionNumbers.{byte_of}
 use Rattle.problem_text.specs.WordRuns.{run_text, name_text}
 use Rattle.problem_text.proofs.RunLemmas.{run_again, run_text-push, no_more}
 use Rattle.problem_text.proofs.SectionLemmas.{map-push}
 use Rattle.problem_text.proofs.LimitLemmas.{names_are_read}
-use Rattle.problem_text.proofs.limit_readers.read_places.Goals as goal
+use Rattle.problem_text.proofs.limit_readers.read_positions.Goals as goal
 
 pub returns-in_default-clause-none : goal.returns-in_default-clause-none
 returns-in_default-clause-none c =
@@ -28,5 +28,5 @@ loop-rest-preserved c =
       kept = c.in_ok-push.ensures.items ∙ (λ i. inv.kept i ++ found.1 i ∷ []) ∙ sym (map-push byte_of inv.said found.0);
       named = All-push (IsNamed ps) inv.said found.0 inv.named found.2;
       read = inv.read ∙ ap (λ t. run_text (name_text ps) inv.said ++ t) found.3 ∙ sym (run_text-push (name_text ps) inv.said found.0 c.in-Some.more.now);
-      cut = c.in-Some.ensures.behind;
+      cut = c.in-Some.ensures.rest;
     }
