@@ -1,4 +1,4 @@
--- a text has one answer
+-- a text has at most one answer
 use Rattle.std.proofs.Common.{◌≡◌, ℕ, ◌<◌, ◌≤◌, List, Option, Some, None, IsSomeAnd, Result, Ok, Err, inl, inr, refl, sym, ap, ap₂, subst, ◌∙◌, arith}
 use Rattle.std.proofs.lemmas.Option.{same_Some}
 use Rattle.mass_units.specs.declared.Kg.{Kg}
@@ -12,7 +12,7 @@ use Rattle.aircraft_file.specs.declared.fault.FileFault.TheVariants.{Toml, Missi
 use Rattle.aircraft_file.specs.declared.parts.Envelopes.{Envelopes}
 use Rattle.aircraft_file.specs.Craft.{Craft, craft_of}
 use Rattle.aircraft_file.specs.Lawful.{Reaches, FallsShort, AreEnvelopes, HaveSpans, IsLawfulCraft, IsEnvelopeRefused, IsFirstShort, IsRefused, IsFaultOf, envelopes_in, IsAnswerTo}
-use Rattle.aircraft_file.proofs.RefusalLemmas.{envelope_stands, one_envelope_fault, fuel_stands, one_fuel_fault}
+use Rattle.aircraft_file.proofs.RefusalLemmas.{envelope_has_no_fault, one_envelope_fault, fuel_has_no_fault, one_fuel_fault}
 
 -- an envelope goes up to a mass, or falls short of it
 reaches_or_not : (last : Option ℕ) (limit : ℕ) → IsSomeAnd last (λ m. limit ≤ m) → IsSomeAnd last (λ m. m < limit) → ⊥
@@ -22,10 +22,10 @@ reaches_or_not None limit reaches short = reaches
 span_or_not : (limit : Kg) (o : Outline) → Reaches limit o → FallsShort limit o → ⊥
 span_or_not limit o reaches short = reaches_or_not (last_mass o.forward) limit.0 reaches short
 
-spans_stand : (which : ℕ) (limits : Certified) (e : Envelopes) → HaveSpans limits e → IsFirstShort which limits e → ⊥
-spans_stand which limits e spans (inl a) = span_or_not limits.zero_fuel e.zero_fuel spans.zero_fuel a.1
-spans_stand which limits e spans (inr (inl a)) = span_or_not limits.take_off e.take_off spans.take_off a.2
-spans_stand which limits e spans (inr (inr a)) = span_or_not limits.landing e.landing spans.landing a.3
+spans_have_no_fault : (which : ℕ) (limits : Certified) (e : Envelopes) → HaveSpans limits e → IsFirstShort which limits e → ⊥
+spans_have_no_fault which limits e spans (inl a) = span_or_not limits.zero_fuel e.zero_fuel spans.zero_fuel a.1
+spans_have_no_fault which limits e spans (inr (inl a)) = span_or_not limits.take_off e.take_off spans.take_off a.2
+spans_have_no_fault which limits e spans (inr (inr a)) = span_or_not limits.landing e.landing spans.landing a.3
 
 one_short : (i j : ℕ) (limits : Certified) (e : Envelopes) → IsFirstShort i limits e → IsFirstShort j limits e → i ≡ j
 one_short i j limits e (inl a) (inl b) = a.0 ∙ sym b.0
@@ -38,20 +38,20 @@ one_short i j limits e (inr (inr a)) (inl b) = absurd (span_or_not limits.zero_f
 one_short i j limits e (inr (inr a)) (inr (inl b)) = absurd (span_or_not limits.take_off e.take_off a.2 b.2)
 one_short i j limits e (inr (inr a)) (inr (inr b)) = a.0 ∙ sym b.0
 
-envelopes_stand : (which : ℕ) (fault : EnvFault) (e : Envelopes) → AreEnvelopes e → IsEnvelopeRefused which fault e → ⊥
-envelopes_stand which fault e lawful (inl a) = envelope_stands fault e.zero_fuel lawful.zero_fuel a.1
-envelopes_stand which fault e lawful (inr (inl a)) = envelope_stands fault e.take_off lawful.take_off a.2
-envelopes_stand which fault e lawful (inr (inr a)) = envelope_stands fault e.landing lawful.landing a.3
+envelopes_have_no_fault : (which : ℕ) (fault : EnvFault) (e : Envelopes) → AreEnvelopes e → IsEnvelopeRefused which fault e → ⊥
+envelopes_have_no_fault which fault e lawful (inl a) = envelope_has_no_fault fault e.zero_fuel lawful.zero_fuel a.1
+envelopes_have_no_fault which fault e lawful (inr (inl a)) = envelope_has_no_fault fault e.take_off lawful.take_off a.2
+envelopes_have_no_fault which fault e lawful (inr (inr a)) = envelope_has_no_fault fault e.landing lawful.landing a.3
 
 one_envelope : (i j : ℕ) (f g : EnvFault) (e : Envelopes) → IsEnvelopeRefused i f e → IsEnvelopeRefused j g e → Envelope i f ≡ Envelope j g
 one_envelope i j f g e (inl a) (inl b) = ap₂ Envelope (a.0 ∙ sym b.0) (one_envelope_fault f g e.zero_fuel a.1 b.1)
-one_envelope i j f g e (inl a) (inr (inl b)) = absurd (envelope_stands f e.zero_fuel b.1 a.1)
-one_envelope i j f g e (inl a) (inr (inr b)) = absurd (envelope_stands f e.zero_fuel b.1 a.1)
-one_envelope i j f g e (inr (inl a)) (inl b) = absurd (envelope_stands g e.zero_fuel a.1 b.1)
+one_envelope i j f g e (inl a) (inr (inl b)) = absurd (envelope_has_no_fault f e.zero_fuel b.1 a.1)
+one_envelope i j f g e (inl a) (inr (inr b)) = absurd (envelope_has_no_fault f e.zero_fuel b.1 a.1)
+one_envelope i j f g e (inr (inl a)) (inl b) = absurd (envelope_has_no_fault g e.zero_fuel a.1 b.1)
 one_envelope i j f g e (inr (inl a)) (inr (inl b)) = ap₂ Envelope (a.0 ∙ sym b.0) (one_envelope_fault f g e.take_off a.2 b.2)
-one_envelope i j f g e (inr (inl a)) (inr (inr b)) = absurd (envelope_stands f e.take_off b.2 a.2)
-one_envelope i j f g e (inr (inr a)) (inl b) = absurd (envelope_stands g e.zero_fuel a.1 b.1)
-one_envelope i j f g e (inr (inr a)) (inr (inl b)) = absurd (envelope_stands g e.take_off a.2 b.2)
+one_envelope i j f g e (inr (inl a)) (inr (inr b)) = absurd (envelope_has_no_fault f e.take_off b.2 a.2)
+one_envelope i j f g e (inr (inr a)) (inl b) = absurd (envelope_has_no_fault g e.zero_fuel a.1 b.1)
+one_envelope i j f g e (inr (inr a)) (inr (inl b)) = absurd (envelope_has_no_fault g e.take_off a.2 b.2)
 one_envelope i j f g e (inr (inr a)) (inr (inr b)) = ap₂ Envelope (a.0 ∙ sym b.0) (one_envelope_fault f g e.landing a.3 b.3)
 
 lawful_or_not : (fault : FileFault) (c : Craft) → IsLawfulCraft c → IsRefused fault c → ⊥
@@ -59,9 +59,9 @@ lawful_or_not Toml c lawful h = h
 lawful_or_not (Missing n) c lawful h = h
 lawful_or_not (Wrong n) c lawful h = h
 lawful_or_not (Hold f) c lawful h = absurd (cc (lawful.hold.right, h))
-lawful_or_not (Envelope i f) c lawful h = envelopes_stand i f (envelopes_in c) lawful.envelopes h.1
-lawful_or_not (Fuel f) c lawful h = fuel_stands f c.fuel lawful.fuel h.2
-lawful_or_not (Span i) c lawful h = spans_stand i c.certified (envelopes_in c) lawful.spans h.3
+lawful_or_not (Envelope i f) c lawful h = envelopes_have_no_fault i f (envelopes_in c) lawful.envelopes h.1
+lawful_or_not (Fuel f) c lawful h = fuel_has_no_fault f c.fuel lawful.fuel h.2
+lawful_or_not (Span i) c lawful h = spans_have_no_fault i c.certified (envelopes_in c) lawful.spans h.3
 lawful_or_not NoMemory c lawful h = h
 
 no_hold : {A : Type 0} (c : Craft) (f : HoldFault) → hold_fault c.hold ≡ None → hold_fault c.hold ≡ Some f → A
@@ -84,23 +84,23 @@ one_refusal (Envelope i f) (Missing n) c h k = absurd k
 one_refusal (Envelope i f) (Wrong n) c h k = absurd k
 one_refusal (Envelope i f) (Hold g) c h k = no_hold c g h.0.right k
 one_refusal (Envelope i f) (Envelope j g) c h k = one_envelope i j f g (envelopes_in c) h.1 k.1
-one_refusal (Envelope i f) (Fuel g) c h k = absurd (envelopes_stand i f (envelopes_in c) k.1 h.1)
-one_refusal (Envelope i f) (Span j) c h k = absurd (envelopes_stand i f (envelopes_in c) k.1 h.1)
+one_refusal (Envelope i f) (Fuel g) c h k = absurd (envelopes_have_no_fault i f (envelopes_in c) k.1 h.1)
+one_refusal (Envelope i f) (Span j) c h k = absurd (envelopes_have_no_fault i f (envelopes_in c) k.1 h.1)
 one_refusal (Envelope i f) NoMemory c h k = absurd k
 one_refusal (Fuel f) Toml c h k = absurd k
 one_refusal (Fuel f) (Missing n) c h k = absurd k
 one_refusal (Fuel f) (Wrong n) c h k = absurd k
 one_refusal (Fuel f) (Hold g) c h k = no_hold c g h.0.right k
-one_refusal (Fuel f) (Envelope j g) c h k = absurd (envelopes_stand j g (envelopes_in c) h.1 k.1)
+one_refusal (Fuel f) (Envelope j g) c h k = absurd (envelopes_have_no_fault j g (envelopes_in c) h.1 k.1)
 one_refusal (Fuel f) (Fuel g) c h k = ap Fuel (one_fuel_fault f g c.fuel h.2 k.2)
-one_refusal (Fuel f) (Span j) c h k = absurd (fuel_stands f c.fuel k.2 h.2)
+one_refusal (Fuel f) (Span j) c h k = absurd (fuel_has_no_fault f c.fuel k.2 h.2)
 one_refusal (Fuel f) NoMemory c h k = absurd k
 one_refusal (Span i) Toml c h k = absurd k
 one_refusal (Span i) (Missing n) c h k = absurd k
 one_refusal (Span i) (Wrong n) c h k = absurd k
 one_refusal (Span i) (Hold g) c h k = no_hold c g h.0.right k
-one_refusal (Span i) (Envelope j g) c h k = absurd (envelopes_stand j g (envelopes_in c) h.1 k.1)
-one_refusal (Span i) (Fuel g) c h k = absurd (fuel_stands g c.fuel h.2 k.2)
+one_refusal (Span i) (Envelope j g) c h k = absurd (envelopes_have_no_fault j g (envelopes_in c) h.1 k.1)
+one_refusal (Span i) (Fuel g) c h k = absurd (fuel_has_no_fault g c.fuel h.2 k.2)
 one_refusal (Span i) (Span j) c h k = ap Span (one_short i j c.certified (envelopes_in c) h.3 k.3)
 one_refusal (Span i) NoMemory c h k = absurd k
 one_refusal NoMemory g c h k = absurd h

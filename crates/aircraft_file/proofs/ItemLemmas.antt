@@ -16,7 +16,7 @@ two_many (v ∷ []) many = absurd (omega arith)
 two_many (v ∷ w ∷ []) many = absurd (omega arith)
 two_many (v ∷ w ∷ x ∷ vs) many = refl
 
--- one value has none behind it
+-- one value has none after it
 pub more_than_one-few : (vs : List Value) → length vs < 2 → more_than_one (items_view vs) ≡ None
 more_than_one-few [] few = refl
 more_than_one-few (v ∷ []) few = refl

@@ -4,3 +4,4 @@ pub mod ItemLemmas
 pub mod DocumentLemmas
 pub mod RefusalLemmas
 pub mod AnswerLemmas
+pub mod MadeLemmas

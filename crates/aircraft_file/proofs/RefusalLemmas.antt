@@ -1,4 +1,4 @@
--- an envelope and a fuel table have no fault, and what is none has one
+-- a lawful envelope and a lawful fuel table have no fault
 use Rattle.std.proofs.Common.{◌≡◌, ℕ, suc, ◌+◌, ◌<◌, nat_le, false, List, [], ◌∷◌, length, position, Some, None, option_map, ◌⊎◌, ⊎_elim, inl, inr, refl, sym, ap, ◌∙◌, arith, All, le_antisymm}
 use Rattle.std.specs.List.{AllByRecursion, position_or_len}
 use Rattle.std.proofs.lemmas.Bool.{lt-leb, le-ltb}
@@ -40,16 +40,16 @@ no_crossing o mass apart (inl forward) = forward.4.1 (rw forward.3 at (apart.0 f
 no_crossing o mass apart (inr aft) = aft.4.1 (rw aft.3 at (apart.1 aft.0 aft.1 aft.2))
 
 -- an envelope has no fault
-pub envelope_stands : (fault : EnvFault) (o : Outline) → IsEnvelope o → envelope.IsRefusedFor fault o → ⊥
-envelope_stands env.TooFewCorners o e refused = refused e.counts
-envelope_stands (env.NotRising at) o e refused = ⊎_elim
+pub envelope_has_no_fault : (fault : EnvFault) (o : Outline) → IsEnvelope o → envelope.IsRefusedFor fault o → ⊥
+envelope_has_no_fault env.TooFewCorners o e refused = refused e.counts
+envelope_has_no_fault (env.NotRising at) o e refused = ⊎_elim
     (λ fall. rises_or_falls (sides.edges o.forward) at e.rising.0 fall)
     (λ both. rises_or_falls (sides.edges o.aft) at e.rising.1 both.1)
     refused.1
-envelope_stands env.DifferentSpan o e refused = refused.1 e.span
-envelope_stands (env.Crossed mass) o e refused = no_crossing o mass.0 e.apart refused.2
+envelope_has_no_fault env.DifferentSpan o e refused = refused.1 e.span
+envelope_has_no_fault (env.Crossed mass) o e refused = no_crossing o mass.0 e.apart refused.2
 
--- the first place at which a side does not rise
+-- the index of the first corner at which a side does not rise
 abbrev FallsAt : Outline → ℕ → Type 0
 FallsAt o at = (sides.first_fall o.forward ≡ Some at) ⊎ (sides.IsRising o.forward × (sides.first_fall o.aft ≡ Some at))
 
@@ -86,10 +86,10 @@ one_envelope_fault (env.Crossed m) (env.Crossed n) o h k =
 
 -- ---- fuel tables
 
-pub fuel_stands : (fault : FuelFault) (xs : List FuelRow) → rows.IsTable xs → fuel.IsRefusedFor fault xs → ⊥
-fuel_stands table.Empty xs t refused = omega (arith, t.some, ap length refused)
-fuel_stands (table.NotRising at) xs t refused = rises_or_falls (rows.lines xs) at t.rising refused
-fuel_stands table.TooMany xs t refused = omega (arith, t.most, refused.1)
+pub fuel_has_no_fault : (fault : FuelFault) (xs : List FuelRow) → rows.IsTable xs → fuel.IsRefusedFor fault xs → ⊥
+fuel_has_no_fault table.Empty xs t refused = omega (arith, t.some, ap length refused)
+fuel_has_no_fault (table.NotRising at) xs t refused = rises_or_falls (rows.lines xs) at t.rising refused
+fuel_has_no_fault table.TooMany xs t refused = omega (arith, t.most, refused.1)
 
 pub one_fuel_fault : (f g : FuelFault) (xs : List FuelRow) → fuel.IsRefusedFor f xs → fuel.IsRefusedFor g xs → f ≡ g
 one_fuel_fault table.Empty table.Empty xs h k = refl

@@ -4,7 +4,7 @@ use Rattle.std.specs.List.{list_all, AllByRecursion}
 use Rattle.std.proofs.lemmas.Bool.{cases_Bool, and_parts, leb-true, le-leb}
 use Rattle.std.proofs.lemmas.Bool.Decides.{nat_tests}
 use Rattle.std.proofs.lemmas.List.Elements.{All-from_recursion, recursion_from_All}
-use Rattle.hold_limits.specs.Spellings.{IsCapitalOrDigit, IsName}
+use Rattle.hold_parts.specs.Spellings.{IsCapitalOrDigit, IsName}
 use Rattle.aircraft_file.specs.Spellings.{is_capital, is_digit, is_capital_or_digit, is_name, spelled}
 
 passes_letter : (c : ℕ) → IsCapitalOrDigit c → is_capital_or_digit c ≡ true

@@ -1,4 +1,4 @@
--- an aircraft as contracts see it, the aircraft that a file stands for, and why a file is refused
+-- an aircraft as contracts see it, and the aircraft that a file describes
 use Rattle.std.specs.Prelude.{ℕ, List, codes, Some, None, Result, Ok, Err}
 use Rattle.mass_units.specs.declared.chord.Chord.{Chord}
 use Rattle.mass_limits.specs.declared.figures.Certified.{Certified}
@@ -12,7 +12,7 @@ use Rattle.aircraft_file.specs.declared.fault.FileFault.TheVariants.{Toml}
 use Rattle.aircraft_file.specs.declared.figures.Figures.{Figures}
 use Rattle.aircraft_file.specs.declared.figures.Dry.{Dry}
 use Rattle.aircraft_file.specs.declared.figures.Tolerance.{Tolerance}
-use Rattle.aircraft_file.specs.declared.figures.Band.{Band}
+use Rattle.mass_units.specs.declared.Band.{Band}
 use Rattle.aircraft_file.specs.declared.parts.Envelopes.{Envelopes}
 use Rattle.aircraft_file.specs.Document.{Contents, section_at, document_of, ◌>>=◌}
 use Rattle.aircraft_file.specs.Figures.{figures_of}
@@ -61,7 +61,7 @@ envelopes_of envelope = do
   landing ← outline_of 33 (section_at (codes "landing") envelope)
   Ok (record { zero_fuel = zero_fuel; take_off = take_off; landing = landing })
 
--- the aircraft that the keys of a document say, or the first key that fails
+-- the aircraft that the keys of a document describe, or the first key that fails
 abbrev pub craft_in : Contents → Result Craft FileFault
 craft_in document = do
   figures ← figures_of document

@@ -1,4 +1,4 @@
--- a document, its keys, and what a reader answers to them
+-- a document, its keys, and what a reader returns for them
 use Rattle.std.specs.Prelude.{◌≡◌, ◌≢◌, ℕ, List, [], if◌then◌else◌, Option, Some, None, option_and_then, Result, Ok, Err}
 use Rattle.std.specs.Str.{is_utf8}
 use Rattle.toml.specs.Data.{Data, Members, get_member, as_table}
@@ -18,16 +18,16 @@ Contents = Option Members
 abbrev pub value_at : List ℕ → Contents → Option Data
 value_at name section = option_and_then (get_member name) section
 
--- the table at a key; a key under what is no table is absent
+-- the table at a key; a key below something that is not a table is absent
 abbrev pub section_at : List ℕ → Contents → Contents
 section_at name section = option_and_then as_table (value_at name section)
 
--- what is read of a value that is there, or else that the key with this number is wrong
+-- what a value that is present says, or else that the key with this number is wrong
 abbrev pub in_form : {A : Type 0} → ℕ → Option A → Result A FileFault
 in_form number (Some a) = Ok a
 in_form number None = Err (Wrong number)
 
--- a key that has to be there, and in its form
+-- a key that must be present and in its form
 abbrev pub required : {A : Type 0} → ℕ → (Data → Option A) → Option Data → Result A FileFault
 required number form None = Err (Missing number)
 required number form (Some d) = in_form number (form d)
@@ -47,7 +47,7 @@ abbrev pub ◌>>=◌ : {A B : Type 0} → Result A FileFault → (A → Result B
 Ok a >>= next = next a
 Err fault >>= next = Err fault
 
--- the answer is the defined one, seen by `view`, or want of memory
+-- the answer is the defined one, seen by `view`, or that memory ran out
 abbrev pub Answers : {V A : Type 0} → (V → A) → Result V FileFault → Result A FileFault → Type 0
 Answers view (Ok v) defined = defined ≡ Ok (view v)
 Answers view (Err fault) defined = fault ≢ NoMemory → defined ≡ Err fault

@@ -8,7 +8,7 @@ use Rattle.aircraft_file.specs.declared.fault.FileFault.TheVariants.{Wrong}
 use Rattle.aircraft_file.specs.declared.figures.Figures.{Figures}
 use Rattle.aircraft_file.specs.declared.figures.Dry.{Dry}
 use Rattle.aircraft_file.specs.declared.figures.Tolerance.{Tolerance}
-use Rattle.aircraft_file.specs.declared.figures.Band.{Band}
+use Rattle.mass_units.specs.declared.Band.{Band}
 use Rattle.aircraft_file.specs.Spellings.{is_registration, is_version}
 use Rattle.aircraft_file.specs.Document.{Contents, section_at, key, ◌>>=◌}
 use Rattle.aircraft_file.specs.Forms.{whole, signed, mass, text, index}
@@ -62,7 +62,7 @@ averages_of averages = do
   bag ← key 21 (mass 0 300) (codes "bag") averages
   Ok (record { adult = adult; child = child; infant = infant; bag = bag })
 
--- the keys 1 to 21: who the aircraft is, and its sections of plain figures
+-- the keys 1 to 21: the aircraft's identity, and its sections of plain figures
 abbrev pub figures_of : Contents → Result Figures FileFault
 figures_of document = do
   registration ← key 1 (text is_registration) (codes "registration") document

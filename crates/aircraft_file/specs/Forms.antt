@@ -1,4 +1,4 @@
--- the forms that a value may have, and what it then says
+-- the forms of a value, and what a value in each form says
 use Rattle.std.specs.Prelude.{ℕ, nat_le, min, ◌&&◌, Bool, true, false, if◌then◌else◌, List, [], ◌∷◌, ℤ, pos, int_le, unsigned_abs, bytes_eq, codes, position, Option, Some, None, option_map, option_and_then}
 use Rattle.toml.specs.Data.{Data, Items, no_items, item, Members, as_integer, as_str, as_bool, as_array, as_table, get_member}
 use Rattle.mass_units.specs.declared.Kg.{Kg}
@@ -6,10 +6,10 @@ use Rattle.mass_units.specs.declared.Ticks.{Ticks}
 use Rattle.envelope.specs.declared.corner.Corner.{Corner}
 use Rattle.fuel_table.specs.declared.row.FuelRow.{FuelRow}
 use Rattle.payload.specs.declared.figures.Zone.{Zone}
-use Rattle.hold_limits.specs.declared.lists.Fit.{Fit}
-use Rattle.hold_limits.specs.declared.parts.Position.{Position}
-use Rattle.hold_limits.specs.declared.parts.Combined.{Combined}
-use Rattle.hold_limits.specs.declared.parts.Cumulative.{Cumulative}
+use Rattle.hold_parts.specs.declared.lists.Fit.{Fit}
+use Rattle.hold_parts.specs.declared.parts.Position.{Position}
+use Rattle.hold_parts.specs.declared.parts.Combined.{Combined}
+use Rattle.hold_parts.specs.declared.parts.Cumulative.{Cumulative}
 use Rattle.aircraft_file.specs.declared.position_form.Head.{Head}
 use Rattle.aircraft_file.specs.Spellings.{spelled, is_name, is_kind, index_spelled}
 
@@ -118,19 +118,19 @@ fit d = do
   most ← listed_mass parts.1
   Some (record { kind = kind; most = most })
 
--- whether a position is bulk, by its key `bulk`: one that is absent says the same as `false`
+-- whether a position is bulk, by its key `bulk`: an absent key means `false`
 abbrev pub is_bulk : Option Data → Option Bool
 is_bulk None = Some false
 is_bulk (Some d) = as_bool d
 
--- what a position accepts, by its key `fits`, which is there exactly where the position is not bulk
+-- what a position accepts, by its key `fits`, which is present exactly where the position is not bulk
 abbrev pub fits_of : Bool → Option Data → Option (List Fit)
 fits_of true None = Some []
 fits_of true (Some d) = None
 fits_of false None = None
 fits_of false (Some d) = array_of fit d
 
--- a position but for what it accepts: its name, its compartment, its influence, and whether it is bulk
+-- a position except for what it accepts: its name, its compartment, its influence, and whether it is bulk
 abbrev pub head_of : Members → Option Head
 head_of table = do
   name ← get_member (codes "name") table >>= text is_name
@@ -139,7 +139,7 @@ head_of table = do
   bulk ← is_bulk (get_member (codes "bulk") table)
   Some (record { name = name; compartment = compartment; influence = influence; bulk = bulk })
 
--- a position: a table with all this
+-- a position: a table with all of these
 abbrev pub position_of : Data → Option Position
 position_of d = do
   table ← as_table d
@@ -149,11 +149,11 @@ position_of d = do
 
 -- the number of the first position with the name
 unfoldable pub number_named : List Position → List ℕ → Option ℕ
-number_named positions name = position (λ (place : Position). bytes_eq place.name name) positions
+number_named positions name = position (λ (p : Position). bytes_eq p.name name) positions
 
--- the position that a text names, by its number, and 255 for each beyond that: a hold of so many positions is refused for them
-abbrev pub place : List Position → Data → Option ℕ
-place positions d = do
+-- the number of the position that a text names, and 255 for each beyond that: a hold with so many positions is refused for having too many
+abbrev pub named_position : List Position → Data → Option ℕ
+named_position positions d = do
   name ← as_str d
   number ← number_named positions name
   Some (min number 255)
@@ -162,8 +162,8 @@ place positions d = do
 abbrev pub exclude : List Position → Data → Option (ℕ × ℕ)
 exclude positions d = do
   parts ← pair d
-  one ← place positions parts.0
-  other ← place positions parts.1
+  one ← named_position positions parts.0
+  other ← named_position positions parts.1
   Some (one, other)
 
 -- `[most, name, ..]`, with at least one name: a combined limit
@@ -171,13 +171,13 @@ abbrev pub combined : List Position → Data → Option Combined
 combined positions d = do
   parts ← first_and_more d
   most ← listed_mass parts.0
-  places ← each (place positions) parts.1
+  places ← each (named_position positions) parts.1
   Some (record { places = places; most = most })
 
 -- `[name, most]`: a cumulative limit of that side
 abbrev pub cumulative : Bool → List Position → Data → Option Cumulative
 cumulative forward positions d = do
   parts ← pair d
-  place ← place positions parts.0
+  place ← named_position positions parts.0
   most ← listed_mass parts.1
   Some (record { forward = forward; place = place; most = most })

@@ -1,4 +1,4 @@
--- which aircraft are lawful, and why a file that says another is refused
+-- which aircraft are lawful, and why a file that describes another is refused
 use Rattle.std.specs.Prelude.{◌≡◌, ℕ, ◌≤◌, ◌<◌, ◌⊎◌, List, length, true, pos, ◌≤ℤ◌, unsigned_abs, All, Some, Result, Ok, Err, IsSomeAnd}
 use Rattle.mass_units.specs.declared.Kg.{Kg}
 use Rattle.mass_units.specs.declared.chord.Chord.{Chord}
@@ -6,11 +6,11 @@ use Rattle.mass_units.specs.Spelling.{IsIndex}
 use Rattle.mass_limits.specs.declared.figures.Certified.{Certified}
 use Rattle.payload.specs.declared.figures.Averages.{Averages}
 use Rattle.payload.specs.declared.figures.Zone.{Zone}
-use Rattle.hold_limits.specs.declared.lists.Fit.{Fit}
-use Rattle.hold_limits.specs.declared.parts.Position.{Position}
-use Rattle.hold_limits.specs.declared.parts.Combined.{Combined}
-use Rattle.hold_limits.specs.declared.parts.Cumulative.{Cumulative}
-use Rattle.hold_limits.specs.Spellings.{IsKind}
+use Rattle.hold_parts.specs.declared.lists.Fit.{Fit}
+use Rattle.hold_parts.specs.declared.parts.Position.{Position}
+use Rattle.hold_parts.specs.declared.parts.Combined.{Combined}
+use Rattle.hold_parts.specs.declared.parts.Cumulative.{Cumulative}
+use Rattle.hold_parts.specs.Spellings.{IsKind}
 use Rattle.hold_limits.specs.Faults.{hold_fault, IsLawfulHold, IsWellSpelled}
 use Rattle.envelope.specs.declared.corner.Corner.{Corner}
 use Rattle.fuel_table.specs.declared.row.FuelRow.{FuelRow}
@@ -24,7 +24,7 @@ use Rattle.aircraft_file.specs.declared.fault.FileFault.TheVariants.{Toml, Missi
 use Rattle.aircraft_file.specs.declared.figures.Figures.{Figures}
 use Rattle.aircraft_file.specs.declared.figures.Dry.{Dry}
 use Rattle.aircraft_file.specs.declared.figures.Tolerance.{Tolerance}
-use Rattle.aircraft_file.specs.declared.figures.Band.{Band}
+use Rattle.mass_units.specs.declared.Band.{Band}
 use Rattle.aircraft_file.specs.declared.parts.Envelopes.{Envelopes}
 use Rattle.aircraft_file.specs.Spellings.{is_registration, is_version}
 use Rattle.aircraft_file.specs.Craft.{Craft, craft_of}
@@ -86,7 +86,7 @@ IsFuelRow row = IsMass 0 1000000 row.fuel × IsIndex row.index.0
 abbrev pub AreCorners : Outline → Type 0
 AreCorners outline = All IsCorner outline.forward × All IsCorner outline.aft
 
--- the mass of each limit is that of an array
+-- the mass of each limit is within the range of a mass in an array
 abbrev pub AreCombined : List Combined → Type 0
 AreCombined limits = All (λ (limit : Combined). IsMass 0 1000000 limit.most) limits
 
@@ -95,7 +95,7 @@ AreCumulative limits = All (λ (limit : Cumulative). IsMass 0 1000000 limit.most
 
 -- the compartment of a position has one digit, and its kinds are three capitals each
 abbrev pub IsSpelledPosition : Position → Type 0
-IsSpelledPosition place = (place.compartment ≤ 9) × All (λ (fit : Fit). IsKind fit.kind) place.fits
+IsSpelledPosition position = (position.compartment ≤ 9) × All (λ (fit : Fit). IsKind fit.kind) position.fits
 
 -- the figures of an aircraft are within their limits
 pub record AreFigures (figures : Figures) : Type 0 where
@@ -164,7 +164,7 @@ pub record IsLawfulCraft (craft : Craft) : Type 0 where
 
 -- Why a file is refused -------------------------------------------------------------------------
 
--- this is the first envelope that is none, and this its fault
+-- this is the number of the first outline that is not an envelope, and this is its fault
 abbrev pub IsEnvelopeRefused : ℕ → EnvFault → Envelopes → Type 0
 IsEnvelopeRefused which fault e =
     ((which ≡ 1) × envelope.IsRefusedFor fault e.zero_fuel)
@@ -178,7 +178,7 @@ IsFirstShort which most e =
     ⊎ (((which ≡ 2) × Reaches most.zero_fuel e.zero_fuel × FallsShort most.take_off e.take_off)
     ⊎ ((which ≡ 3) × Reaches most.zero_fuel e.zero_fuel × Reaches most.take_off e.take_off × FallsShort most.landing e.landing))
 
--- the aircraft that the keys say is not lawful, for this first reason: its hold, an envelope, its fuel table, or a span
+-- the aircraft that the keys describe is not lawful, for this first reason: its hold, an envelope, its fuel table, or a span
 abbrev pub IsRefused : FileFault → Craft → Type 0
 IsRefused Toml craft = ⊥
 IsRefused (Missing number) craft = ⊥
@@ -195,7 +195,7 @@ abbrev pub IsFaultOf : Result Craft FileFault → FileFault → Type 0
 IsFaultOf (Ok craft) fault = IsRefused fault craft
 IsFaultOf (Err first) fault = fault ≡ first
 
--- the answer to a text, want of memory aside: the aircraft that it stands for, where it is lawful, or the fault that decides
+-- the answer to a text, out of memory aside: the aircraft that it describes, where it is lawful, or the fault that decides
 abbrev pub IsAnswerTo : List ℕ → Result Craft FileFault → Type 0
 IsAnswerTo text (Ok craft) = (craft_of text ≡ Ok craft) × IsLawfulCraft craft
 IsAnswerTo text (Err fault) = IsFaultOf (craft_of text) fault

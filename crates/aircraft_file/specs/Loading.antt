@@ -3,9 +3,9 @@ use Rattle.std.specs.Prelude.{ℕ, ◌+◌, nat_le, ◌&&◌, true, false, if◌
 use Rattle.envelope.specs.Outline.{Outline}
 use Rattle.fuel_table.specs.declared.row.FuelRow.{FuelRow}
 use Rattle.payload.specs.declared.figures.Zone.{Zone}
-use Rattle.hold_limits.specs.declared.parts.Position.{Position}
-use Rattle.hold_limits.specs.declared.parts.Combined.{Combined}
-use Rattle.hold_limits.specs.declared.parts.Cumulative.{Cumulative}
+use Rattle.hold_parts.specs.declared.parts.Position.{Position}
+use Rattle.hold_parts.specs.declared.parts.Combined.{Combined}
+use Rattle.hold_parts.specs.declared.parts.Cumulative.{Cumulative}
 use Rattle.hold_limits.specs.Layout.{Layout, layout_of}
 use Rattle.aircraft_file.specs.declared.fault.FileFault.{FileFault}
 use Rattle.aircraft_file.specs.declared.fault.FileFault.TheVariants.{Wrong}

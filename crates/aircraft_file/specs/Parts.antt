@@ -1,4 +1,4 @@
--- what the keys of a file say, as their reader holds it
+-- what the keys of a file say, as their reader keeps it
 use Rattle.hold_limits.specs.Layout.{Layout}
 use Rattle.envelope.specs.Outline.{Outline}
 use Rattle.aircraft_file.specs.declared.parts.HoldParts.{HoldParts}

@@ -1,4 +1,4 @@
--- a section of the document as its reader holds it
+-- a section of the document as its reader keeps it
 use Rattle.std.specs.Prelude.{option_map}
 use Rattle.toml.specs.View.{table_view}
 use Rattle.aircraft_file.specs.declared.section.Section.{Section}

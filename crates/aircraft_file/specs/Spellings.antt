@@ -13,7 +13,7 @@ is_digit c = nat_le 48 c && nat_le c 57
 abbrev pub is_capital_or_digit : ℕ → Bool
 is_capital_or_digit c = is_capital c || is_digit c
 
--- so many capitals or digits
+-- a number of capitals or digits within these bounds
 abbrev pub is_word : ℕ → ℕ → List ℕ → Bool
 is_word least most text = (nat_le least (length text) && nat_le (length text) most) && list_all is_capital_or_digit text
 
@@ -37,11 +37,11 @@ is_kind text = (length text == 3) && list_all is_capital text
 abbrev pub spelled : (List ℕ → Bool) → List ℕ → Option (List ℕ)
 spelled test text = if test text then Some text else None
 
--- the ticks of a text with no sign: its digits before the point, and its five decimals behind it
+-- the ticks of a text with no sign: its digits before the point, and its five decimals after it
 abbrev pub units_in : List ℕ → ℕ
 units_in text = digits_value 10 (take (length text - 6) text) * 100000 + digits_value 10 (drop 1 (drop (length text - 6) text))
 
--- the ticks of a text: those behind its minus, below zero, or those of the whole
+-- the ticks of a text: the negated ticks of what follows its minus, or those of the whole text
 unfoldable pub ticks_in : List ℕ → ℤ
 ticks_in [] = pos 0
 ticks_in (c ∷ text) = if c == 45 then neg_ℤ (pos (units_in text)) else pos (units_in (c ∷ text))

@@ -1,4 +1,4 @@
-//! An aircraft, and the tests that the numbers of a file make one.
+//! An aircraft, and the tests that the numbers of a file make up a lawful one.
 
 ghost use Rattle.std.specs.Prelude.{◌≡◌, IfErr, IfNone, IfOk, IfSome, MatchBool};
 ghost use Rattle.envelope.specs.Outline.{IsEnvelope};
@@ -193,23 +193,17 @@ pub fn aircraft_of(parts: Parts) -> Result<Aircraft, FileFault>
         sides,
     } = parts;
     let limits = hold.limits;
-    let hold = match Hold::new(
+    let hold = Hold::new(
         hold.positions,
         limits.excludes,
         limits.combined,
         limits.cumulative,
-    ) {
-        Ok(hold) => hold,
-        Err(fault) => return Err(FileFault::Hold(fault)),
-    };
-    let envelopes = match envelopes_of(sides) {
-        Ok(envelopes) => envelopes,
-        Err((which, fault)) => return Err(FileFault::Envelope(which, fault)),
-    };
-    let fuel = match FuelTable::new(fuel) {
-        Ok(fuel) => fuel,
-        Err(fault) => return Err(FileFault::Fuel(fault)),
-    };
+    )
+    .map_err(FileFault::Hold)?;
+    let envelopes = envelopes_of(sides).map_err(|(which, fault)| FileFault::Envelope(
+        which, fault,
+    ))?;
+    let fuel = FuelTable::new(fuel).map_err(FileFault::Fuel)?;
     if let Some(which) = first_short(&figures.certified, &envelopes) {
         return Err(FileFault::Span(which));
     }
@@ -222,7 +216,7 @@ pub fn aircraft_of(parts: Parts) -> Result<Aircraft, FileFault>
     })
 }
 
-/// The envelopes with these sides, or the first that is none with its fault.
+/// The envelopes with these sides, or the number of the first that is not one, with its fault.
 fn envelopes_of(sides: AllSides) -> Result<Envelopes, (usize, EnvFault)>
     ensures made { IfOk result (λ envelopes. envelopes ≡ outlines_in sides) }
     ensures lawful { IfOk result AreEnvelopes }

@@ -1,4 +1,4 @@
-//! The keys 1 to 21: who the aircraft is, and its sections of plain figures.
+//! The keys 1 to 21: the aircraft's identity, and its sections of plain figures.
 
 ghost use Rattle.std.specs.Prelude.{◌≡◌, IfOk};
 ghost use Rattle.aircraft_file.specs.Figures.{averages_of, certified_of, chord_of, dry_of, figures_of, ideal_of, tolerance_of};
@@ -6,10 +6,10 @@ ghost use Rattle.aircraft_file.specs.Lawful.{AreAverages, AreFigures, IsBand, Is
 ghost use Rattle.aircraft_file.specs.Sections.{contents};
 
 use crate::fault::FileFault;
-use crate::figures::{Band, Dry, Figures, Tolerance};
+use crate::figures::{Dry, Figures, Tolerance};
 use crate::section::Section;
 use mass_limits::Certified;
-use mass_units::{Chord, Kg};
+use mass_units::{Band, Chord};
 use payload::Averages;
 
 /// The greatest mass of an aircraft, in kilograms.

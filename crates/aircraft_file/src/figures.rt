@@ -2,7 +2,7 @@
 
 use crate::texts::{Registration, Version};
 use mass_limits::Certified;
-use mass_units::{Chord, Kg, Ticks};
+use mass_units::{Band, Chord, Kg, Ticks};
 use payload::Averages;
 
 /// The aircraft with its equipment and no crew, load or fuel, as the operator's default.
@@ -12,21 +12,14 @@ pub struct Dry {
     pub index: Ticks,
 }
 
-/// What the late changes of a flight may change at most, up or down.
+/// The most by which the late changes of a flight may change its figures, up or down.
 #[derive(Clone, Copy, Debug)]
 pub struct Tolerance {
     pub mass: Kg,
     pub index: Ticks,
 }
 
-/// The two ends of a range of indices.
-#[derive(Clone, Copy, Debug)]
-pub struct Band {
-    pub low: Ticks,
-    pub high: Ticks,
-}
-
-/// All figures of an aircraft that are no list.
+/// The figures of an aircraft that are not lists.
 #[derive(Debug, Drop)]
 pub struct Figures {
     pub registration: Registration,

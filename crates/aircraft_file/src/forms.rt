@@ -8,7 +8,7 @@ use desk_base::NoMemory;
 use std::alloc::Global;
 use toml::Value;
 
-/// A form that a value in an array may have.
+/// A form of a value in an array.
 pub trait Form {
     ghost use Rattle.std.specs.Prelude.{◌≡◌, Option, IfOk, IfSome};
     ghost use Rattle.toml.specs.Data.{Data};
@@ -21,13 +21,13 @@ pub trait Form {
 
     ghost limits: { Self → Self.Content → Type 0 };
 
-    /// What the value says, and None where it is not in this form.
+    /// What the value says. None where it is not in this form.
     fn read(&self, alloc: Global, value: &Value) -> Result<Option<Self::Content>, NoMemory>
         ensures value { IfOk result (λ read. read ≡ content self.now (view value.now)) }
         ensures limits { IfOk result (λ read. IfSome read (limits self.now)) };
 }
 
-/// What the values say, and None where one of them is not in the form.
+/// What the values say. None where one of them is not in the form.
 pub fn read_each<F: Form>(
     alloc: Global,
     form: &F,
@@ -48,7 +48,7 @@ pub fn read_each<F: Form>(
     Ok(Some(contents))
 }
 
-/// What the values of an array say, and None where the value is no array of values in the form.
+/// What the values of an array say. None where the value is not an array of values in the form.
 pub fn read_array<F: Form>(
     alloc: Global,
     form: &F,
@@ -59,8 +59,8 @@ pub fn read_array<F: Form>(
     ensures limits { IfOk result (λ read. IfSome read (λ list.
         All (F.limits form.now) list.items)) }
 {
-    match value.as_array() {
-        Some(values) => read_each(alloc, form, values.as_slice()),
-        None => Ok(None),
-    }
+    let Some(values) = value.as_array() else {
+        return Ok(None);
+    };
+    read_each(alloc, form, values)
 }

@@ -1,9 +1,9 @@
-//! The forms of the limits on the positions of a hold. In them a position is named, and stands for the
-//! number of the first position with that name.
+//! The forms of the limits on the positions of a hold. They name positions, and a name means the first
+//! position that has it.
 
 ghost use Rattle.std.specs.Prelude.{◌≡◌, IfOk, IfSome, bytes_eq};
 ghost use Rattle.toml.specs.View.{view};
-ghost use Rattle.aircraft_file.specs.Forms.{combined, cumulative, exclude, number_named, place};
+ghost use Rattle.aircraft_file.specs.Forms.{combined, cumulative, exclude, named_position, number_named};
 ghost use Rattle.aircraft_file.specs.Lawful.{IsMass};
 
 use crate::forms::{Form, read_each};
@@ -30,9 +30,9 @@ fn number_of(positions: &[Position], name: &[u8]) -> Option<usize>
 }
 
 /// The number of the named position. A number over 255 is read as 255: a hold with so many positions is
-/// refused for their number, whatever its limits say.
-fn read_place(positions: &[Position], value: &Value) -> Option<u8>
-    ensures { result ≡ place positions.now (view value.now) }
+/// refused for having too many, whatever its limits say.
+fn read_position_number(positions: &[Position], value: &Value) -> Option<u8>
+    ensures { result ≡ named_position positions.now (view value.now) }
 {
     let number = number_of(positions, value.as_str()?.as_bytes())?;
     Some(number.min(255) as u8)
@@ -40,21 +40,21 @@ fn read_place(positions: &[Position], value: &Value) -> Option<u8>
 
 /// The form of a position's name.
 #[derive(Drop)]
-struct PlaceForm<'a> {
+struct NameForm<'a> {
     positions: &'a [Position],
 }
 
-impl<'a> Form for PlaceForm<'a> {
-    ghost use Rattle.aircraft_file.specs.Forms.{place};
+impl<'a> Form for NameForm<'a> {
+    ghost use Rattle.aircraft_file.specs.Forms.{named_position};
 
     type Content = u8;
 
-    ghost content = { λ form d. place form.positions.now d };
+    ghost content = { λ form d. named_position form.positions.now d };
 
     ghost limits = { λ form read. Unit {0} };
 
     fn read(&self, _alloc: Global, value: &Value) -> Result<Option<u8>, NoMemory> {
-        Ok(read_place(self.positions, value))
+        Ok(read_position_number(self.positions, value))
     }
 }
 
@@ -82,7 +82,10 @@ fn read_exclude(positions: &[Position], value: &Value) -> Option<(u8, u8)>
     ensures { result ≡ exclude positions.now (view value.now) }
 {
     let (one, other) = read_pair(value)?;
-    Some((read_place(positions, one)?, read_place(positions, other)?))
+    Some((
+        read_position_number(positions, one)?,
+        read_position_number(positions, other)?,
+    ))
 }
 
 /// The form `[most, name, ..]` of a combined limit.
@@ -108,16 +111,16 @@ impl<'a> Form for CombinedForm<'a> {
         let Some(most) = read_mass(most) else {
             return Ok(None);
         };
-        let form = PlaceForm {
+        let form = NameForm {
             positions: self.positions,
         };
-        match read_each(alloc, &form, names)? {
-            Some(places) => Ok(Some(Combined {
-                places: Places::from(places),
-                most,
-            })),
-            None => Ok(None),
-        }
+        let Some(places) = read_each(alloc, &form, names)? else {
+            return Ok(None);
+        };
+        Ok(Some(Combined {
+            places: Places::from(places),
+            most,
+        }))
     }
 }
 
@@ -147,10 +150,10 @@ fn read_cumulative(forward: bool, positions: &[Position], value: &Value) -> Opti
     ensures value { result ≡ cumulative forward positions.now (view value.now) }
     ensures limits { IfSome result (λ limit. IsMass 0 1000000 limit.most) }
 {
-    let (place, most) = read_pair(value)?;
+    let (name, most) = read_pair(value)?;
     Some(Cumulative {
         forward,
-        place: read_place(positions, place)?,
+        place: read_position_number(positions, name)?,
         most: read_mass(most)?,
     })
 }

@@ -10,8 +10,8 @@
 //! rows = [[0, "0.00000"], [3000, "-0.01000"]]
 //! ```
 //!
-//! A file is read exactly: either it gives the aircraft that its text stands for, or the one fault that
-//! decides. Masses are whole kilograms, indices texts with five decimals, lengths millimetres.
+//! A file is read exactly: the result is the aircraft that its text describes, or the one fault that
+//! decides. Masses are whole kilograms, indices are texts with five decimals, lengths are millimetres.
 #![tactic(auto)]
 
 mod aircraft;

@@ -1,4 +1,4 @@
-//! What the keys of a file say, before it is tested whether they make an aircraft.
+//! What the keys of a file say, before they are tested for making up a lawful aircraft.
 
 use crate::figures::Figures;
 use envelope::{Corner, Envelope};

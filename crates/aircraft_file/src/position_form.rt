@@ -1,7 +1,7 @@
 //! The form of a position of the hold.
 
 ghost use Rattle.std.specs.Prelude.{◌≡◌, ◌≤◌, option_map, All, IfOk, IfSome};
-ghost use Rattle.hold_limits.specs.Spellings.{IsKind};
+ghost use Rattle.hold_parts.specs.Spellings.{IsKind};
 ghost use Rattle.toml.specs.View.{view, table_view};
 ghost use Rattle.aircraft_file.specs.Forms.{fit, fits_of, head_of, is_bulk, position_of};
 
@@ -13,13 +13,34 @@ use hold_limits::{Fit, Fits, Name, Position};
 use std::alloc::Global;
 use toml::{Table, Value};
 
-/// A position but for what it accepts.
+/// A position except for what it accepts.
 #[derive(Drop)]
 struct Head {
     name: Name,
     compartment: u8,
     influence: i32,
     bulk: bool,
+}
+
+impl Head {
+    /// The position that accepts these kinds.
+    fn with_fits(self, fits: Vec<Fit>) -> Position
+        ensures { result ≡ record {
+          name = self.name;
+          compartment = self.compartment;
+          influence = self.influence;
+          bulk = self.bulk;
+          fits = fits.items;
+        } }
+    {
+        Position {
+            name: self.name,
+            compartment: self.compartment,
+            influence: self.influence,
+            bulk: self.bulk,
+            fits: Fits::from(fits),
+        }
+    }
 }
 
 /// The form of a position: a table with its name, its compartment, its influence, and either the kinds that
@@ -45,10 +66,10 @@ impl Form for PositionForm {
             return Ok(None);
         };
         let fits = Section::of(table).value("fits");
-        match read_fits(alloc, head.bulk, fits)? {
-            Some(fits) => Ok(Some(position_with(head, fits))),
-            None => Ok(None),
-        }
+        let Some(fits) = read_fits(alloc, head.bulk, fits)? else {
+            return Ok(None);
+        };
+        Ok(Some(head.with_fits(fits)))
     }
 }
 
@@ -75,7 +96,7 @@ fn read_bulk(bulk: Option<&Value>) -> Option<bool>
     }
 }
 
-/// What the position accepts, by its key `fits`, which has to be absent where the position is bulk.
+/// What the position accepts, by its key `fits`, which must be absent where the position is bulk.
 fn read_fits(alloc: Global, bulk: bool, fits: Option<&Value>) -> Result<Option<Vec<Fit>>, NoMemory>
     ensures value { IfOk result (λ read. option_map (λ list. list.items) read
         ≡ fits_of bulk (option_map (λ v. view v.now) fits.entry)) }
@@ -89,31 +110,13 @@ fn read_fits(alloc: Global, bulk: bool, fits: Option<&Value>) -> Result<Option<V
     }
 }
 
-fn position_with(head: Head, fits: Vec<Fit>) -> Position
-    ensures { result ≡ record {
-      name = head.name;
-      compartment = head.compartment;
-      influence = head.influence;
-      bulk = head.bulk;
-      fits = fits.items;
-    } }
-{
-    Position {
-        name: head.name,
-        compartment: head.compartment,
-        influence: head.influence,
-        bulk: head.bulk,
-        fits: Fits::from(fits),
-    }
-}
-
 /// The form `[kind, most]` of a kind with the greatest mass of one container.
 #[derive(Drop)]
 struct FitForm;
 
 impl Form for FitForm {
     ghost use Rattle.aircraft_file.specs.Forms.{fit};
-    ghost use Rattle.hold_limits.specs.Spellings.{IsKind};
+    ghost use Rattle.hold_parts.specs.Spellings.{IsKind};
 
     type Content = Fit;
 

@@ -12,10 +12,10 @@ use crate::section::Section;
 use std::alloc::Global;
 use toml::Table;
 
-/// Reads the aircraft that the text stands for. The text is a TOML document with the keys of an aircraft
-/// file; keys that it has beside them are passed over.
+/// Reads the aircraft that the text describes. The text is a TOML document with the keys of an aircraft
+/// file; other keys are skipped.
 ///
-/// A text that stands for none is refused with the one fault that decides: it is no document; or else the
+/// A text that describes none is refused with the one fault that decides: it is not a document; or else the
 /// first key that is missing or wrong, in the order of their numbers; or else the first fault of the hold,
 /// the three envelopes, the fuel table or the spans, in this order.
 #[tactic(auto, using(crate::proofs::AnswerLemmas::one_answer))]
@@ -30,7 +30,7 @@ pub fn read_aircraft(alloc: Global, text: &[u8]) -> Result<Aircraft, FileFault>
     aircraft_of(parts)
 }
 
-/// The document that the text is.
+/// The document in the text.
 fn read_document(alloc: Global, text: &[u8]) -> Result<Table, FileFault>
     ensures read { IfOk result (λ table. document_of text.now ≡ Some (table_view table)) }
     ensures refused { IfErr result (λ fault. fault ≢ FileFault.NoMemory

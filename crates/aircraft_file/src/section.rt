@@ -17,7 +17,7 @@ use mass_units::{Kg, Ticks};
 use std::alloc::Global;
 use toml::{Table, Value};
 
-/// A section of the document: a table, or none where its key is not that of a table.
+/// A section of the document: a table, or None where its key does not hold a table.
 #[derive(Drop)]
 pub struct Section<'a> {
     table: Option<&'a Table>,
@@ -35,11 +35,9 @@ impl<'a> Section<'a> {
     pub fn section(&self, name: &str) -> Section<'a>
         ensures { contents result ≡ section_at name.now (contents self.now) }
     {
-        let table = match self.value(name) {
-            Some(value) => value.as_table(),
-            None => None,
-        };
-        Section { table }
+        Section {
+            table: self.value(name).and_then(|value| value.as_table()),
+        }
     }
 
     /// The value at this key.
@@ -50,7 +48,7 @@ impl<'a> Section<'a> {
         self.table?.get(name)
     }
 
-    /// The value at the key with this number and this name, which has to be there.
+    /// The value at the key with this number and this name, which must be present.
     fn required(&self, number: usize, name: &str) -> Result<&'a Value, FileFault>
         ensures there { IfOk result (λ v.
             value_at name.now (contents self.now) ≡ Some (view v.now)) }
@@ -127,10 +125,7 @@ impl<'a> Section<'a> {
         ensures limits { IfOk result (λ list. All (F.limits form.now) list.items) }
     {
         let value = self.required(number, name)?;
-        match read_array(alloc, form, value)? {
-            Some(list) => Ok(list),
-            None => Err(FileFault::Wrong(number)),
-        }
+        read_array(alloc, form, value)?.ok_or(FileFault::Wrong(number))
     }
 
     /// The same, and an empty list where the key is absent.
@@ -148,9 +143,6 @@ impl<'a> Section<'a> {
         let Some(value) = self.value(name) else {
             return Ok(Vec::new(alloc));
         };
-        match read_array(alloc, form, value)? {
-            Some(list) => Ok(list),
-            None => Err(FileFault::Wrong(number)),
-        }
+        read_array(alloc, form, value)?.ok_or(FileFault::Wrong(number))
     }
 }

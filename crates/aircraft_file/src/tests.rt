@@ -1,4 +1,4 @@
-// The file of the worked day, edits of it key by key, and files whose keys make no lawful aircraft.
+// The file of the worked day, edits of it key by key, and files whose keys describe no lawful aircraft.
 use crate::{Aircraft, FileFault, read_aircraft};
 use envelope::{Corner, EnvFault};
 use fuel_table::{FuelFault, FuelRow};
@@ -7,7 +7,6 @@ use mass_limits::Certified;
 use mass_units::{Chord, Kg, Ticks};
 use payload::{Averages, Zone};
 use std::alloc::Global;
-use std::process::Abort;
 use std::test::Fail;
 
 /// `examples/daiab.toml`.
@@ -85,8 +84,7 @@ forward = [[40000, "39.00000"], [70000, "43.00000"]]
 aft = [[40000, "61.00000"], [70000, "61.00000"]]
 "#;
 
-/// A key with its number, its text in the file, a text in which it is absent, and one in which it is not in
-/// its form.
+/// A key: its number, its text in the file, a text without it, and a text where it is not in its form.
 type Case = (usize, &'static str, &'static str, &'static str);
 
 const FIGURES: [Case; 21] = [
@@ -170,7 +168,7 @@ const LISTS: [Case; 9] = [
     ),
 ];
 
-/// Those that may be absent. The file has two of them.
+/// The keys that may be absent. The file has two of them.
 const LIMITS: [Case; 4] = [
     (
         24,
@@ -188,7 +186,7 @@ const LIMITS: [Case; 4] = [
     (27, r#"aft = [["41", 4500]]"#, "", r#"aft = [["41"]]"#),
 ];
 
-/// What is read of the file, with other texts for some of its texts.
+/// The result for the file with some of its texts replaced.
 fn read_with(alloc: Global, edits: &[(&str, &str)]) -> Result<Result<Aircraft, FileFault>, Fail> {
     let mut text = String::from_str(alloc, DAIAB)?;
     for (old, new) in edits {
@@ -197,32 +195,26 @@ fn read_with(alloc: Global, edits: &[(&str, &str)]) -> Result<Result<Aircraft, F
     Ok(read_aircraft(alloc, text.as_bytes()))
 }
 
-fn has_fault(
-    rt: &impl Abort,
-    alloc: Global,
-    edits: &[(&str, &str)],
-    fault: FileFault,
-) -> Result<(), Fail> {
-    assert_eq!(rt; read_with(alloc, edits)?.err(), Some(fault), "{edits:?}");
-    Ok(())
+/// The fault of the file with some of its texts replaced, if it has one.
+fn fault_with(alloc: Global, edits: &[(&str, &str)]) -> Result<Option<FileFault>, Fail> {
+    Ok(read_with(alloc, edits)?.err())
 }
 
 #[test]
 fn each_key_may_be_missing_or_wrong(rt: HostRuntime) -> Result<(), Fail> {
-    for cases in [FIGURES.as_slice(), LISTS.as_slice()] {
-        for (number, text, absent, wrong) in cases {
-            has_fault(
-                &rt,
-                rt.alloc(),
-                &[(text, absent)],
-                FileFault::Missing(*number),
-            )?;
-            has_fault(&rt, rt.alloc(), &[(text, wrong)], FileFault::Wrong(*number))?;
-        }
+    for (number, text, absent, wrong) in FIGURES.iter().chain(LISTS.iter()) {
+        let missing = fault_with(rt.alloc(), &[(text, absent)])?;
+        assert!(rt; missing == Some(FileFault::Missing(*number)), "{number}");
+        let wrong = fault_with(rt.alloc(), &[(text, wrong)])?;
+        assert!(rt; wrong == Some(FileFault::Wrong(*number)), "{number}");
     }
     for (number, text, absent, wrong) in &LIMITS {
-        assert!(rt; read_with(rt.alloc(), &[(text, absent)])?.is_ok());
-        has_fault(&rt, rt.alloc(), &[(text, wrong)], FileFault::Wrong(*number))?;
+        assert!(rt;
+            fault_with(rt.alloc(), &[(text, absent)])?.is_none(),
+            "{number}"
+        );
+        let wrong = fault_with(rt.alloc(), &[(text, wrong)])?;
+        assert!(rt; wrong == Some(FileFault::Wrong(*number)), "{number}");
     }
     Ok(())
 }
@@ -237,72 +229,57 @@ fn the_first_fault_decides(rt: HostRuntime) -> Result<(), Fail> {
     let same_name = (r#"name = "42""#, r#"name = "41""#);
     let level_rows = ("[3000, ", "[0, ");
     let crossed = FileFault::Envelope(1, EnvFault::Crossed(Kg(65_000)));
-    let alloc = rt.alloc();
-    has_fault(&rt, alloc, &[short_landing], FileFault::Span(3))?;
-    has_fault(
-        &rt,
-        alloc,
-        &[level_rows, short_landing],
-        FileFault::Fuel(FuelFault::NotRising(1)),
-    )?;
-    has_fault(&rt, alloc, &[crossed_sides, level_rows], crossed)?;
-    has_fault(
-        &rt,
-        alloc,
-        &[same_name, crossed_sides],
-        FileFault::Hold(HoldFault::SameName(3)),
-    )?;
-    has_fault(&rt, alloc, &[lost_name, same_name], FileFault::Wrong(25))?;
-    has_fault(&rt, alloc, &[crossed_band, lost_name], FileFault::Wrong(17))?;
-    has_fault(
-        &rt,
-        alloc,
-        &[registration, crossed_band],
-        FileFault::Missing(1),
-    )?;
-    has_fault(&rt, alloc, &[registration, ("[dry]", "[")], FileFault::Toml)
+    let table: [(&[(&str, &str)], FileFault); 8] = [
+        (&[short_landing], FileFault::Span(3)),
+        (
+            &[level_rows, short_landing],
+            FileFault::Fuel(FuelFault::NotRising(1)),
+        ),
+        (&[crossed_sides, level_rows], crossed),
+        (
+            &[same_name, crossed_sides],
+            FileFault::Hold(HoldFault::SameName(3)),
+        ),
+        (&[lost_name, same_name], FileFault::Wrong(25)),
+        (&[crossed_band, lost_name], FileFault::Wrong(17)),
+        (&[registration, crossed_band], FileFault::Missing(1)),
+        (&[registration, ("[dry]", "[")], FileFault::Toml),
+    ];
+    for (edits, fault) in table {
+        let got = fault_with(rt.alloc(), edits)?;
+        assert!(rt; got == Some(fault), "{edits:?}");
+    }
+    Ok(())
 }
 
 #[test]
 fn rules_of_single_forms(rt: HostRuntime) -> Result<(), Fail> {
-    let alloc = rt.alloc();
     let bulk = "bulk = true";
-    has_fault(
-        &rt,
-        alloc,
-        &[("[dry]", "dry = 5\n[other]")],
-        FileFault::Missing(3),
-    )?;
-    has_fault(
-        &rt,
-        alloc,
-        &[("mass = 42000", "mass = 9223372036854775808")],
-        FileFault::Toml,
-    )?;
-    has_fault(
-        &rt,
-        alloc,
-        &[(bulk, "bulk = true\nfits = []")],
-        FileFault::Wrong(23),
-    )?;
-    has_fault(&rt, alloc, &[(bulk, "bulk = false")], FileFault::Wrong(23))?;
-    has_fault(
-        &rt,
-        alloc,
-        &[(bulk, "fits = []")],
-        FileFault::Hold(HoldFault::Fits(4)),
-    )?;
-    has_fault(
-        &rt,
-        alloc,
-        &[("influence = 900", "influence = 999999999")],
-        FileFault::Hold(HoldFault::Influence(4)),
-    )?;
-    assert!(rt; read_with(alloc, &[(bulk, "bulk = false\nfits = [[\"AKE\", 1500]]")])?.is_ok());
+    let table = [
+        ("[dry]", "dry = 5\n[other]", Some(FileFault::Missing(3))),
+        (
+            "mass = 42000",
+            "mass = 9223372036854775808",
+            Some(FileFault::Toml),
+        ),
+        (bulk, "bulk = true\nfits = []", Some(FileFault::Wrong(23))),
+        (bulk, "bulk = false", Some(FileFault::Wrong(23))),
+        (bulk, "fits = []", Some(FileFault::Hold(HoldFault::Fits(4)))),
+        (
+            "influence = 900",
+            "influence = 999999999",
+            Some(FileFault::Hold(HoldFault::Influence(4))),
+        ),
+        (bulk, "bulk = false\nfits = [[\"AKE\", 1500]]", None),
+    ];
+    for (old, new, fault) in table {
+        let got = fault_with(rt.alloc(), &[(old, new)])?;
+        assert!(rt; got == fault, "{new}");
+    }
     Ok(())
 }
 
-/// The figures of the file, as it states them.
+/// Whether the aircraft has the figures that the file states.
 fn has_figures(aircraft: &Aircraft) -> bool {
     aircraft.registration().bytes() == b"DAIAB".as_slice()
         && aircraft.version().bytes() == b"Y150".as_slice()
@@ -314,7 +291,7 @@ fn has_figures(aircraft: &Aircraft) -> bool {
         && aircraft.ideal_high() == Ticks(5_100_000)
 }
 
-/// The position has this name, one kind `AKE` of up to 1500 kg, and this compartment and influence.
+/// Whether the position has this name, compartment and influence, and accepts `AKE` of up to 1500 kg alone.
 fn is_position(position: &Position, name: &[u8], compartment: u8, influence: i32) -> bool {
     let fits = position.fits.as_slice();
     position.name.bytes() == name
@@ -397,7 +374,7 @@ fn its_hold_is_read(rt: HostRuntime) -> Result<(), Fail> {
     Ok(())
 }
 
-/// The first and the last corner of a side.
+/// Whether the side begins and ends with these corners.
 fn has_ends(side: &[Corner], first: (u32, i64), last: (u32, i64)) -> bool {
     let corner = |(mass, index)| Some(Corner {
         mass: Kg(mass),

@@ -25,7 +25,7 @@ impl Model for Registration {
 }
 
 impl Registration {
-    /// The registration that the text spells, and None exactly where it spells none.
+    /// The registration that the text spells. None exactly where it spells none.
     pub fn read(text: &[u8]) -> Option<Registration>
         ensures { result ≡ spelled is_registration text.now }
     {
@@ -62,7 +62,7 @@ impl Model for Version {
 }
 
 impl Version {
-    /// The version that the text spells, and None exactly where it spells none.
+    /// The version that the text spells. None exactly where it spells none.
     pub fn read(text: &[u8]) -> Option<Version>
         ensures { result ≡ spelled is_version text.now }
     {

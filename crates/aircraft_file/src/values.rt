@@ -1,11 +1,11 @@
-//! What one value of a document says, where it is in a form.
+//! What a value of a document says where it is in one of the forms.
 
 ghost use Rattle.std.specs.Prelude.{◌≡◌, ◌≤◌, unsigned_abs, option_map, IfSome};
 ghost use Rattle.mass_units.specs.Spelling.{IsIndex};
 ghost use Rattle.toml.specs.View.{view, items_view};
 ghost use Rattle.aircraft_file.specs.Forms.{first_and_more, index, listed_mass, pair, signed, text, whole};
 ghost use Rattle.aircraft_file.specs.Lawful.{IsMass};
-ghost use Rattle.hold_limits.specs.Spellings.{IsKind};
+ghost use Rattle.hold_parts.specs.Spellings.{IsKind};
 ghost use Rattle.aircraft_file.specs.Spellings.{is_kind, is_name, is_registration, is_version};
 
 use crate::texts::{Registration, Version};
@@ -31,7 +31,7 @@ pub fn read_mass(value: &Value) -> Option<Kg>
     ensures value { result ≡ listed_mass (view value.now) }
     ensures within { IfSome result (IsMass 0 1000000) }
 {
-    Some(Kg(read_number(value, 0, 1_000_000)?))
+    read_number(value, 0, 1_000_000).map(Kg)
 }
 
 /// A whole number of at most this size, to either side of zero.
@@ -107,8 +107,7 @@ pub fn read_first_and_more(value: &Value) -> Option<(&Value, &[Value])>
         ≡ first_and_more (view value.now) }
 {
     match value.as_array()?.as_slice() {
-        [_] => None,
+        [] | [_] => None,
         [first, more @ ..] => Some((first, more)),
-        [] => None,
     }
 }
