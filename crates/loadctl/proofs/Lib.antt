@@ -1,5 +1,4 @@
-pub mod WordLemmas
+pub mod ArgumentLemmas
 pub mod TextLemmas
-pub mod JudgingLemmas
 pub mod ReplyLemmas
 pub mod RunLemmas

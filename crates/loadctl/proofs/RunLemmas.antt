@@ -1,46 +1,113 @@
--- from a reply and what was printed to the clauses of a run
-use Rattle.std.proofs.Common.{◌≡◌, ◌≢◌, ◌⊎◌, ⊎_elim, inl, inr, ℕ, List, Option, refl}
+-- How a run ends, from its reply and from what was written of it.
+use Rattle.std.proofs.Common.{◌≡◌, ◌≢◌, ℕ, List, Option, Some, Result, Ok, Err, refl, sym, ap, subst, ◌∙◌}
+use Rattle.std.specs.Result.{IfOk, IfErr, IsErrAnd}
 use Rattle.desk_base.specs.Faults.{Rose}
+use Rattle.load_io.specs.Shelf.{Files}
 use Rattle.load_io.specs.Sink.{Appends, AppendsPart}
-use Rattle.loadctl.specs.declared.status.Status.{Status}
-use Rattle.loadctl.specs.declared.status.Status.TheVariants.{Done, Usage, BadInput, NothingFits, OverBudget, ReadFault, WriteFault, NoMemory}
-use Rattle.loadctl.specs.Run.{IsAnswered, IsRefusing}
-use Rattle.loadctl.specs.Judging.{IsAnsweredBy, status_number}
+use Rattle.loadctl.specs.declared.ending.Outcome.{Outcome}
+use Rattle.loadctl.specs.declared.ending.Outcome.TheVariants.{Usage}
+use Rattle.loadctl.specs.declared.ending.Stop.{Stop}
+use Rattle.loadctl.specs.declared.ending.Stop.TheVariants.{ReadFault, WriteFault, NoMemory}
+use Rattle.loadctl.specs.Arguments.{AreInvalid}
+use Rattle.loadctl.specs.ReplyText.{usage_text}
+use Rattle.loadctl.specs.Reply.{IsReply}
+use Rattle.loadctl.specs.Run.{Outside, exit_status, IsReplyOver, IsRun, ExitsWith}
+use Rattle.loadctl.specs.Run.Ends.{replied, read_fault, write_fault, no_memory}
+use Rattle.loadctl.proofs.ReplyLemmas.{verdict-from_reply, bad_input-from_reply}
 
--- a status is that of a fault of the output, or another
-write_fault_or : (s : Status) → (s ≡ WriteFault) ⊎ (s ≢ WriteFault)
-write_fault_or Done = inr (λ e. cc)
-write_fault_or Usage = inr (λ e. cc)
-write_fault_or BadInput = inr (λ e. cc)
-write_fault_or NothingFits = inr (λ e. cc)
-write_fault_or OverBudget = inr (λ e. cc)
-write_fault_or ReadFault = inr (λ e. cc)
-write_fault_or WriteFault = inl refl
-write_fault_or NoMemory = inr (λ e. cc)
+-- a reply over files that are exposed
+exposed_reply : (arguments : List (List ℕ)) (exposed : Option Files) (files : Files) (outcome : Outcome) (text : List ℕ) → exposed ≡ Some files
+    → IsReplyOver arguments exposed outcome text → IsReply arguments files outcome text
+exposed_reply arguments exposed files outcome text is is_reply = rw is at is_reply
 
--- the number of an answered placement is that of an answer
-answered-number : (s : Status) → IsAnsweredBy s → IsAnswered (status_number s)
-answered-number Done is = refl
-answered-number NothingFits is = refl
-answered-number OverBudget is = refl
-answered-number Usage is = absurd is
-answered-number BadInput is = absurd is
-answered-number ReadFault is = absurd is
-answered-number WriteFault is = absurd is
-answered-number NoMemory is = absurd is
+-- the reply was printed whole
+pub run-printed : (arguments : List (List ℕ)) (before after : Outside) (outcome : Outcome) (text bytes : List ℕ) → bytes ≡ text
+    → IsReplyOver arguments before.files outcome text
+    → (outcome ≡ Usage → AreInvalid arguments × (text ≡ usage_text))
+    → (AreInvalid arguments → outcome ≡ Usage)
+    → Appends before.output after.output bytes
+    → after.files ≡ before.files → after.failed_reads ≡ before.failed_reads → after.failed_writes ≡ before.failed_writes
+    → IsRun arguments before after (Ok outcome)
+run-printed arguments before after outcome text bytes same is_reply usage invalid appended files reads writes = record {
+  ends = replied outcome text is_reply (subst (Appends before.output after.output) same appended) reads writes;
+  same_files = files;
+  usage = λ e.
+      let is : outcome ≡ Usage = cc in
+      record { invalid = (usage is).0; appended = subst (Appends before.output after.output) (same ∙ (usage is).1) appended };
+  invalid = invalid;
+  unread = λ _ e. cc;
+  complete = λ files exposed names. verdict-from_reply arguments files outcome text names (exposed_reply arguments before.files files outcome text exposed is_reply);
+  refused = λ files exposed names. bad_input-from_reply arguments files outcome text names (exposed_reply arguments before.files files outcome text exposed is_reply);
+}
 
--- an answer that was printed, where the output's count did not rise
-pub answered-at : (old new : Option (List ℕ)) (before now : ℕ) (text : List ℕ) (status s : Status) (result : ℕ) → IsAnsweredBy status → (Rose before now → ⊥)
-    → (s ≢ WriteFault → (s ≡ status) × Appends old new text) → (s ≡ WriteFault → Rose before now × AppendsPart old new text) → result ≡ status_number s → IsAnswered result
-answered-at old new before now text status s result is still whole part number = ⊎_elim
-    (λ fault. absurd (still (part fault).0))
-    (λ other. rw (number, (whole other).0) (answered-number status is))
-    (write_fault_or s)
+-- a write failed
+pub run-cut : (arguments : List (List ℕ)) (before after : Outside) (outcome : Outcome) (text bytes : List ℕ) → bytes ≡ text
+    → IsReplyOver arguments before.files outcome text
+    → AppendsPart before.output after.output bytes
+    → after.files ≡ before.files → after.failed_reads ≡ before.failed_reads → Rose before.failed_writes after.failed_writes
+    → IsRun arguments before after (Err WriteFault)
+run-cut arguments before after outcome text bytes same is_reply appended files reads rose = record {
+  ends = write_fault outcome text is_reply (subst (AppendsPart before.output after.output) same appended) reads rose;
+  same_files = files;
+  usage = λ e. cc;
+  invalid = λ _. tt;
+  unread = λ _ e. cc;
+  complete = λ _ _ _. tt;
+  refused = λ _ _ _. tt;
+}
 
--- a refusal that was printed, likewise
-pub refused-at : (old new : Option (List ℕ)) (before now : ℕ) (text : List ℕ) (status s : Status) (result : ℕ) → status ≡ BadInput → (Rose before now → ⊥)
-    → (s ≢ WriteFault → (s ≡ status) × Appends old new text) → (s ≡ WriteFault → Rose before now × AppendsPart old new text) → result ≡ status_number s → IsRefusing result
-refused-at old new before now text status s result is still whole part number = ⊎_elim
-    (λ fault. absurd (still (part fault).0))
-    (λ other. rw (number, (whole other).0, is) refl)
-    (write_fault_or s)
+-- there is no reply
+pub run-stopped : (X : Type 0) (arguments : List (List ℕ)) (before after : Outside) (result : Result X Stop) (stop : Stop) → result ≡ Err stop
+    → (AreInvalid arguments → result ≢ Err ReadFault) → result ≢ Err WriteFault
+    → (result ≡ Err ReadFault → Rose before.failed_reads after.failed_reads)
+    → (result ≢ Err ReadFault → after.failed_reads ≡ before.failed_reads)
+    → after.files ≡ before.files → after.output ≡ before.output → after.failed_writes ≡ before.failed_writes
+    → IsRun arguments before after (Err stop)
+run-stopped X arguments before after result ReadFault is unread unwritten counted uncounted files output writes = record {
+  ends = read_fault (counted is) output writes;
+  same_files = files;
+  usage = λ e. cc;
+  invalid = λ _. tt;
+  unread = λ invalid _. unread invalid is;
+  complete = λ _ _ _. tt;
+  refused = λ _ _ _. tt;
+}
+run-stopped X arguments before after result WriteFault is unread unwritten counted uncounted files output writes = absurd (unwritten is)
+run-stopped X arguments before after result NoMemory is unread unwritten counted uncounted files output writes = record {
+  ends = no_memory output (uncounted (λ e. let other = sym is ∙ e in cc)) writes;
+  same_files = files;
+  usage = λ e. cc;
+  invalid = λ _. tt;
+  unread = λ _ e. cc;
+  complete = λ _ _ _. tt;
+  refused = λ _ _ _. tt;
+}
+
+-- memory ran out before anything else happened
+pub exit-no_memory : (arguments : List (List ℕ)) (outside : Outside) (status : ℕ) → status ≡ exit_status (Err NoMemory) → ExitsWith arguments outside outside status
+exit-no_memory arguments outside status is = record {
+  ending = Err NoMemory;
+  status_is = is;
+  run = record {
+    ends = no_memory refl refl refl;
+    same_files = refl;
+    usage = λ e. cc;
+    invalid = λ _. tt;
+    unread = λ _ e. cc;
+    complete = λ _ _ _. tt;
+    refused = λ _ _ _. tt;
+  };
+}
+
+pub IfOk-always : {X E : Type 0} (r : Result X E) (P : X → Type 0) → ((x : X) → P x) → IfOk r P
+IfOk-always (Ok x) P always = always x
+IfOk-always (Err e) P always = tt
+
+pub IfErr-always : {X E : Type 0} (r : Result X E) (P : E → Type 0) → ((e : E) → P e) → IfErr r P
+IfErr-always (Ok x) P always = tt
+IfErr-always (Err e) P always = always e
+
+-- the error that `?` returns
+pub Err-from_residual : {X : Type 0} (r : Result X Stop) (stop : Stop) → IsErrAnd r (λ e. e ≡ stop) → r ≡ Err stop
+Err-from_residual (Ok x) stop is = absurd is
+Err-from_residual (Err e) stop is = ap (λ e. Err e) is

@@ -1,16 +1,16 @@
--- texts of lines, put together
+-- Texts of lines.
 use Rattle.std.proofs.Common.{◌≡◌, ℕ, ◌+◌, ◌<◌, ◌≤◌, List, [], ◌∷◌, ◌++◌, length, get_or, take, Some, refl, ap, ap₂, sym, ◌∙◌, append_assoc, arith}
 use Rattle.std.proofs.lemmas.List.{map-append, take_more}
 use Rattle.std.proofs.lemmas.Option.{get_or_from_slice_get, slice_get-get_or}
 use Rattle.std.specs.Prelude.{slice_get, codes, pos}
 use Rattle.mass_units.specs.Spelling.{index_text}
-use Rattle.hold_limits.specs.declared.parts.Item.{Item}
+use Rattle.hold_parts.specs.declared.parts.Item.{Item}
 use Rattle.hold_limits.specs.Problem.{Problem}
 use Rattle.hold_limits.specs.BranchOrder.{ordered}
 use Rattle.hold_limits.specs.Placement.{Placed, placed, take_off_index, distance}
 use Rattle.hold_limits.proofs.PlacedLemmas.{length-placed, placed-at}
 use Rattle.problem_text.specs.TaskText.{line_of, text_of}
-use Rattle.loadctl.specs.AnswerText.{one_line, place_line, place_lines, plan_text}
+use Rattle.loadctl.specs.ReplyText.{one_line, place_line, place_lines, plan_text}
 
 pub text_of-append : (a b : List (List ℕ)) → text_of (a ++ b) ≡ text_of a ++ text_of b
 text_of-append [] b = refl
@@ -25,7 +25,7 @@ take-placed t path rank item short within there =
     let at : slice_get (placed t path) rank ≡ Some p = placed-at t path rank (get_or path rank 0) item there (slice_get-get_or path rank 0 within) in
     take_more (placed t path) rank p inside ∙ ap (λ x. take rank (placed t path) ++ x ∷ []) (get_or_from_slice_get (placed t path) rank p p at)
 
--- the lines of one container more
+-- the lines of one more container
 pub place_lines-more : (t : Problem) (path : List ℕ) (rank : ℕ) (item : Item) → length path ≤ length t.items → rank < length path → slice_get (ordered t.items) rank ≡ Some item
     → text_of (place_lines t (take (rank + 1) (placed t path))) ≡ text_of (place_lines t (take rank (placed t path))) ++ text_of (place_line t.hold (item, get_or path rank 0) ∷ [])
 place_lines-more t path rank item short within there =
@@ -33,7 +33,7 @@ place_lines-more t path rank item short within there =
     ∙ ap text_of (map-append (place_line t.hold) (take rank (placed t path)) ((item, get_or path rank 0) ∷ []))
     ∙ text_of-append (place_lines t (take rank (placed t path))) (place_line t.hold (item, get_or path rank 0) ∷ [])
 
--- the plan's text, as it is put together
+-- the plan's text, part by part
 pub plan_text-is : (t : Problem) (path : List ℕ)
     → plan_text t path
     ≡ one_line (codes "PLAN" ∷ []) ++ text_of (place_lines t (placed t path)) ++ one_line (codes "index" ∷ index_text (take_off_index t path) ∷ []) ++ one_line (codes "distance" ∷ index_text (pos (distance t path)) ∷ [])

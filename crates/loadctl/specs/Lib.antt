@@ -1,4 +1,4 @@
-pub mod Words
-pub mod AnswerText
+pub mod Arguments
+pub mod ReplyText
+pub mod Reply
 pub mod Run
-pub mod Judging

@@ -1,92 +1,79 @@
--- what a run prints, and why
-use Rattle.std.specs.Prelude.{◌≡◌, ℕ, ◌≤◌, ◌==◌, List, [], ◌∷◌, length, Option, Some, None, IsTrue}
-use Rattle.std.specs.List.{list_any}
+-- How a run ends, and what it leaves.
+use Rattle.std.specs.Prelude.{◌≡◌, ◌≢◌, ℕ, List, Option, Some, Result, Ok, Err, IfOk, IfSome}
+use Rattle.desk_base.specs.Faults.{Rose}
 use Rattle.load_io.specs.Shelf.{Files}
 use Rattle.load_io.specs.Sink.{Appends, AppendsPart}
-use Rattle.hold_limits.specs.Problem.{Problem}
-use Rattle.hold_limits.specs.Placement.{IsBest}
-use Rattle.hold_limits.specs.Faults.{hold_fault, task_fault}
-use Rattle.problem_text.specs.TaskText.{Spells}
-use Rattle.loadctl.specs.Words.{IsPlace, HasNoForm}
-use Rattle.placer.specs.Search.{MoreViableThan, HasNoPlacement}
-use Rattle.loadctl.specs.AnswerText.{longest_task, IsRefusal, plan_text, none_text, budget_text, usage_text}
+use Rattle.loadctl.specs.declared.ending.Outcome.{Outcome}
+use Rattle.loadctl.specs.declared.ending.Outcome.TheVariants.{Plan, Usage, BadInput, NothingFits, OverBudget}
+use Rattle.loadctl.specs.declared.ending.Stop.{Stop}
+use Rattle.loadctl.specs.declared.ending.Stop.TheVariants.{ReadFault, WriteFault, NoMemory}
+use Rattle.loadctl.specs.Arguments.{AreInvalid}
+use Rattle.loadctl.specs.ReplyText.{usage_text}
+use Rattle.loadctl.specs.Reply.{IsReply, IsVerdict, NamesLawfulTask, NamesRefusedFile}
 
--- the words ask for a placement of the file of this name, and these are its bytes
-pub record AsksFor (words : List (List ℕ)) (files : Files) (budget : ℕ) (bytes : List ℕ) : Type 0 where
-  pub name : List ℕ
-  pub form : IsPlace words name budget
-  pub there : files name ≡ Some bytes
+-- the exit status
+abbrev pub exit_status : Result Outcome Stop → ℕ
+exit_status (Ok Plan) = 0
+exit_status (Ok Usage) = 2
+exit_status (Ok BadInput) = 3
+exit_status (Ok NothingFits) = 4
+exit_status (Ok OverBudget) = 5
+exit_status (Err ReadFault) = 6
+exit_status (Err WriteFault) = 7
+exit_status (Err NoMemory) = 9
 
--- the words ask for a placement of this task, which their file spells, with this budget
-pub record AsksToPlace (words : List (List ℕ)) (files : Files) (t : Problem) (budget : ℕ) : Type 0 where
-  pub bytes : List ℕ
-  pub asks : AsksFor words files budget bytes
-  pub short : length bytes ≤ longest_task
-  pub spelled : Spells bytes t
-  pub hold : hold_fault t.hold ≡ None
-  pub task : task_fault t ≡ None
+-- the files and the output, as far as they are exposed, and how many reads and writes have failed
+pub record Outside : Type 0 where
+  pub files : Option Files
+  pub failed_reads : ℕ
+  pub output : Option (List ℕ)
+  pub failed_writes : ℕ
 
--- the text is the plan of the best path
-pub record IsPlan (words : List (List ℕ)) (files : Files) (text : List ℕ) : Type 0 where
-  pub t : Problem
-  pub budget : ℕ
-  pub path : List ℕ
-  pub asks : AsksToPlace words files t budget
-  pub best : IsBest t path
-  pub is : text ≡ plan_text t path
+abbrev pub outside : Option Files → ℕ → Option (List ℕ) → ℕ → Outside
+outside files failed_reads output failed_writes = record { files = files; failed_reads = failed_reads; output = output; failed_writes = failed_writes }
 
--- the text says that nothing fits, and no path is admissible
-pub record IsNone (words : List (List ℕ)) (files : Files) (text : List ℕ) : Type 0 where
-  pub t : Problem
-  pub budget : ℕ
-  pub asks : AsksToPlace words files t budget
-  pub none : HasNoPlacement t
-  pub is : text ≡ none_text
+-- the text is the reply, unless the files are hidden
+abbrev pub IsReplyOver : List (List ℕ) → Option Files → Outcome → List ℕ → Type 0
+IsReplyOver arguments exposed outcome text = IfSome exposed (λ files. IsReply arguments files outcome text)
 
--- the text names the budget, and the viable prefixes are more than it
-pub record IsOverBudget (words : List (List ℕ)) (files : Files) (text : List ℕ) : Type 0 where
-  pub t : Problem
-  pub budget : ℕ
-  pub asks : AsksToPlace words files t budget
-  pub more : MoreViableThan t budget
-  pub is : text ≡ budget_text budget
+-- how a run with these arguments ends; only a failed read or write raises its count
+pub data Ends (arguments : List (List ℕ)) (before after : Outside) : Result Outcome Stop → Type 0 where
+  -- the whole reply was printed
+  replied : (outcome : Outcome) (text : List ℕ) → IsReplyOver arguments before.files outcome text → Appends before.output after.output text
+      → after.failed_reads ≡ before.failed_reads → after.failed_writes ≡ before.failed_writes
+      → Ends arguments before after (Ok outcome)
+  -- the file could not be read, and nothing was printed
+  read_fault : Rose before.failed_reads after.failed_reads → after.output ≡ before.output
+      → after.failed_writes ≡ before.failed_writes → Ends arguments before after (Err ReadFault)
+  -- a write failed, and a proper prefix of the reply was printed
+  write_fault : (outcome : Outcome) (text : List ℕ) → IsReplyOver arguments before.files outcome text → AppendsPart before.output after.output text
+      → after.failed_reads ≡ before.failed_reads → Rose before.failed_writes after.failed_writes
+      → Ends arguments before after (Err WriteFault)
+  -- memory ran out, and nothing was printed
+  no_memory : after.output ≡ before.output → after.failed_reads ≡ before.failed_reads → after.failed_writes ≡ before.failed_writes
+      → Ends arguments before after (Err NoMemory)
 
--- the text says why the file is refused
-pub record IsBadInput (words : List (List ℕ)) (files : Files) (text : List ℕ) : Type 0 where
-  pub budget : ℕ
-  pub bytes : List ℕ
-  pub asks : AsksFor words files budget bytes
-  pub refusal : IsRefusal bytes text
+-- the arguments are invalid, and the output says so
+pub record IsUsage (arguments : List (List ℕ)) (before after : Outside) : Type 0 where
+  pub invalid : AreInvalid arguments
+  pub appended : Appends before.output after.output usage_text
 
--- the text says that the words have no form
-pub record IsUsage (words : List (List ℕ)) (text : List ℕ) : Type 0 where
-  pub unknown : HasNoForm words
-  pub is : text ≡ usage_text
+-- a run with these arguments: how it ends and what it leaves
+pub record IsRun (arguments : List (List ℕ)) (before after : Outside) (ending : Result Outcome Stop) : Type 0 where
+  pub ends : Ends arguments before after ending
+  -- the files stay as they were
+  pub same_files : after.files ≡ before.files
+  -- arguments are reported as invalid exactly if they are; then no file is read
+  pub usage : ending ≡ Ok Usage → IsUsage arguments before after
+  pub invalid : AreInvalid arguments → IfOk ending (λ outcome. outcome ≡ Usage)
+  pub unread : AreInvalid arguments → ending ≢ Err ReadFault
+  -- a file with a lawful task is answered
+  pub complete : (files : Files) → before.files ≡ Some files → NamesLawfulTask arguments files → IfOk ending IsVerdict
+  -- any other file is refused
+  pub refused : (files : Files) → before.files ≡ Some files → NamesRefusedFile arguments files → IfOk ending (λ outcome. outcome ≡ BadInput)
 
--- the whole text of a run, by its cause
-pub data IsDue (words : List (List ℕ)) (files : Files) (text : List ℕ) : Type 0 where
-  plan : IsPlan words files text → IsDue words files text
-  none : IsNone words files text → IsDue words files text
-  budget : IsOverBudget words files text → IsDue words files text
-  input : IsBadInput words files text → IsDue words files text
-  usage : IsUsage words text → IsDue words files text
-
--- the output grew by a text with this cause
-abbrev pub Prints : Option (List ℕ) → Option (List ℕ) → (List ℕ → Type 0) → Type 0
-Prints old new IsCaused = (text : List ℕ) × IsCaused text × Appends old new text
-
--- the output grew by a first part of a text with this cause, and not by all of it
-abbrev pub PrintsPart : Option (List ℕ) → Option (List ℕ) → (List ℕ → Type 0) → Type 0
-PrintsPart old new IsCaused = (text : List ℕ) × IsCaused text × AppendsPart old new text
-
--- the statuses that a run can end with
-abbrev pub IsStatus : ℕ → Type 0
-IsStatus n = IsTrue (list_any (λ s. s == n) (0 ∷ 2 ∷ 3 ∷ 4 ∷ 5 ∷ 6 ∷ 7 ∷ 9 ∷ []))
-
--- the statuses of a placement that was answered, and of want of memory
-abbrev pub IsAnswered : ℕ → Type 0
-IsAnswered n = IsTrue (list_any (λ s. s == n) (0 ∷ 4 ∷ 5 ∷ 9 ∷ []))
-
--- the statuses of a file that is refused, and of want of memory
-abbrev pub IsRefusing : ℕ → Type 0
-IsRefusing n = IsTrue (list_any (λ s. s == n) (3 ∷ 9 ∷ []))
+-- a run with these arguments that exits with this status
+pub record ExitsWith (arguments : List (List ℕ)) (before after : Outside) (status : ℕ) : Type 0 where
+  pub ending : Result Outcome Stop
+  pub status_is : status ≡ exit_status ending
+  pub run : IsRun arguments before after ending

@@ -1,22 +1,21 @@
-//! From the bytes of a task's file to the answer.
+//! From the bytes of a task's file to the reply.
 
-ghost use Rattle.std.specs.Prelude.{◌≡◌, ◌≢◌, ◌≤◌, ℕ, List, length, IfOk};
-ghost use Rattle.hold_limits.specs.Problem.{Problem};
-ghost use Rattle.loadctl.specs.AnswerText.{longest_task, long_text, usage_text, hold_fault_number, task_fault_number, IsFaultLine, IsRefusal};
-ghost use Rattle.loadctl.specs.Judging.{IsOutcome, IsJudgement, SpellsLawful};
+ghost use Rattle.std.specs.Prelude.{◌≡◌, ◌≤◌, ℕ, List, length, IfOk};
+ghost use Rattle.loadctl.specs.ReplyText.{longest_task, long_text, usage_text, hold_fault_number, task_fault_number, IsFaultLine};
+ghost use Rattle.loadctl.specs.Reply.{IsTaskIn, IsAnswer};
 
-use crate::answer_text::{budget_line, input_line, plan_of, two_word_line, word_line};
-use crate::status::Status;
+use crate::ending::Outcome;
+use crate::reply_text::{budget_line, input_line, plan_of, two_word_line, word_line};
 use desk_base::NoMemory;
 use hold_limits::{HoldFault, Task, TaskFault};
-use placer::{Plain, search};
+use placer::{Answer, search};
 use problem_text::{TextFault, read_task};
 use std::alloc::Global;
 
-/// A whole answer: what is printed, and how the run then ends.
+/// What a run is to print, and how it then ends.
 #[derive(Debug, Drop)]
-pub struct Answer {
-    pub status: Status,
+pub struct Reply {
+    pub outcome: Outcome,
     pub text: Vec<u8>,
 }
 
@@ -50,7 +49,7 @@ fn number_of_task_fault(fault: TaskFault) -> u64
     }
 }
 
-/// The line that names a fault of a text.
+/// The line that reports a fault of a text.
 fn line_of_fault(alloc: Global, fault: TextFault) -> Result<Vec<u8>, NoMemory>
     ensures { IfOk result (λ text. IsFaultLine fault text.items) }
 {
@@ -63,71 +62,67 @@ fn line_of_fault(alloc: Global, fault: TextFault) -> Result<Vec<u8>, NoMemory>
     }
 }
 
-/// The answer to a lawful task.
-fn outcome_of(alloc: Global, task: &Task, budget: u32) -> Result<Answer, NoMemory>
-    ensures { IfOk result (λ answer. IsOutcome task.now budget answer.status answer.text.items) }
+/// The reply to a lawful task.
+fn verdict_on(alloc: Global, task: &Task, budget: u32) -> Result<Reply, NoMemory>
+    ensures { (bytes : List ℕ) → IsTaskIn bytes task.now
+        → IfOk result (λ reply. IsAnswer bytes budget reply.outcome reply.text.items) }
 {
     match search(alloc, task, budget)? {
-        Plain::Best(path) => Ok(Answer {
-            status: Status::Done,
+        Answer::Best(path) => Ok(Reply {
+            outcome: Outcome::Plan,
             text: plan_of(alloc, task, &path)?,
         }),
-        Plain::NoneFits => Ok(Answer {
-            status: Status::NothingFits,
+        Answer::NoneFits => Ok(Reply {
+            outcome: Outcome::NothingFits,
             text: word_line(alloc, b"NONE")?,
         }),
-        Plain::Budget(spent) => Ok(Answer {
-            status: Status::OverBudget,
+        Answer::Budget(spent) => Ok(Reply {
+            outcome: Outcome::OverBudget,
             text: budget_line(alloc, spent)?,
         }),
     }
 }
 
-/// The answer to a file whose bytes spell no lawful task.
-fn refusal_of(alloc: Global, fault: TextFault) -> Result<Answer, NoMemory>
-    ensures { IfOk result (λ answer. (answer.status ≡ Status.BadInput)
-        × IsFaultLine fault answer.text.items) }
+/// The reply to a file whose bytes spell no lawful task.
+fn refusal_of(alloc: Global, fault: TextFault) -> Result<Reply, NoMemory>
+    ensures refused { IfOk result (λ reply. reply.outcome ≡ Outcome.BadInput) }
+    ensures line { IfOk result (λ reply. IsFaultLine fault reply.text.items) }
 {
-    Ok(Answer {
-        status: Status::BadInput,
+    Ok(Reply {
+        outcome: Outcome::BadInput,
         text: line_of_fault(alloc, fault)?,
     })
 }
 
-/// The answer to the bytes of a task's file.
-pub fn judge(alloc: Global, bytes: &[u8], budget: u32) -> Result<Answer, NoMemory>
+/// The reply to the bytes of a task's file.
+pub fn judge(alloc: Global, bytes: &[u8], budget: u32) -> Result<Reply, NoMemory>
     requires { length bytes.now ≤ longest_task }
-    ensures judged { IfOk result
-        (λ answer. IsJudgement bytes.now budget answer.status answer.text.items) }
-    ensures complete { (t : Problem) → SpellsLawful bytes.now t
-        → IfOk result (λ answer. answer.status ≢ Status.BadInput) }
-    ensures refused { (line : List ℕ) → IsRefusal bytes.now line
-        → IfOk result (λ answer. answer.status ≡ Status.BadInput) }
+    ensures { IfOk result (λ reply. IsAnswer bytes.now budget reply.outcome reply.text.items) }
 {
     match read_task(alloc, bytes) {
-        Ok(task) => outcome_of(alloc, &task, budget),
+        Ok(task) => verdict_on(alloc, &task, budget),
         Err(fault) => refusal_of(alloc, fault),
     }
 }
 
-/// The answer to a file that is too long.
-pub fn too_long(alloc: Global) -> Result<Answer, NoMemory>
-    ensures { IfOk result (λ answer. (answer.status ≡ Status.BadInput)
-        × (answer.text.items ≡ long_text)) }
+/// The reply to a file that is too long.
+pub fn too_long(alloc: Global) -> Result<Reply, NoMemory>
+    ensures refused { IfOk result (λ reply. reply.outcome ≡ Outcome.BadInput) }
+    ensures line { IfOk result (λ reply. reply.text.items ≡ long_text) }
 {
-    Ok(Answer {
-        status: Status::BadInput,
+    Ok(Reply {
+        outcome: Outcome::BadInput,
         text: two_word_line(alloc, b"INPUT", b"LONG")?,
     })
 }
 
-/// The answer to words in no form.
-pub fn usage(alloc: Global) -> Result<Answer, NoMemory>
-    ensures { IfOk result (λ answer. (answer.status ≡ Status.Usage)
-        × (answer.text.items ≡ usage_text)) }
+/// The reply to invalid arguments.
+pub fn usage(alloc: Global) -> Result<Reply, NoMemory>
+    ensures usage { IfOk result (λ reply. reply.outcome ≡ Outcome.Usage) }
+    ensures line { IfOk result (λ reply. reply.text.items ≡ usage_text) }
 {
-    Ok(Answer {
-        status: Status::Usage,
+    Ok(Reply {
+        outcome: Outcome::Usage,
         text: word_line(alloc, b"USAGE")?,
     })
 }

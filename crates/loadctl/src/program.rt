@@ -1,65 +1,41 @@
-//! One run of the program, from its words to its status.
+//! One run of the program, from its arguments to its exit status.
 
-ghost use Rattle.std.specs.Prelude.{◌≡◌, ◌≢◌, ◌⊎◌, ℕ, List, IfOk, IfSome, Some, OnOk};
+ghost use Rattle.std.specs.Prelude.{◌≡◌, ◌≢◌, [], drop, Result, Err, IsErr, IsOkAnd, IfOk, IfErr, Some};
+ghost use Rattle.std.specs.IoError.{error_kind};
+ghost use Rattle.std.specs.Vec.Iter.{into_iter_items};
 ghost use Rattle.desk_base.specs.Faults.{Rose};
-ghost use Rattle.load_io.specs.Shelf.{Files};
-ghost use Rattle.load_io.specs.Sink.{Appends, AppendsPart};
-ghost use Rattle.hold_limits.specs.Problem.{Problem};
-ghost use Rattle.loadctl.specs.Words.{words_of, HasNoForm};
-ghost use Rattle.loadctl.specs.Run.{AsksToPlace, IsPlan, IsNone, IsOverBudget, IsBadInput, IsUsage, IsDue, Prints, PrintsPart, IsStatus, IsAnswered, IsRefusing};
-ghost use Rattle.loadctl.specs.Judging.{IsReply, IsAnsweredBy, IsPrintable};
+ghost use Rattle.loadctl.specs.Arguments.{arguments_of, AreInvalid};
+ghost use Rattle.loadctl.specs.ReplyText.{usage_text};
+ghost use Rattle.loadctl.specs.Run.{outside, exit_status, IsReplyOver, IsRun, ExitsWith};
 
-use crate::judging::{Answer, judge, too_long, usage};
-use crate::status::Status;
-use crate::words::place_of;
+use crate::arguments::place_command;
+use crate::ending::{Outcome, Stop};
+use crate::judging::{Reply, judge, too_long, usage};
 use desk_base::NoMemory;
 use load_io::{Shelf, ShelfFault, Sink, write_all};
 use std::alloc::Global;
+use std::env::Args;
+use std::io::{self, ErrorKind};
 
 /// The greatest length of a task's file, in bytes.
 const LONGEST_TASK: usize = 1_048_576;
 
-/// Why there is no answer to print.
-#[derive(Clone, Copy, Debug)]
-pub enum Stop {
-    ReadFault,
-    NoMemory,
-}
-
-impl From<NoMemory> for Stop {
-    ghost use Rattle.std.specs.Prelude.{◌≡◌};
-    ghost use Rattle.loadctl.specs.declared.program.Stop.TheVariants as variant;
-
-    ghost from_gives = { λ _ stop. stop ≡ variant.NoMemory };
-
-    fn from(_refused: NoMemory) -> Stop {
-        Stop::NoMemory
-    }
-}
-
-/// The answer to the words, for which the shelf is read at most once.
-fn reply<F: Shelf>(alloc: Global, words: &Vec<String>, shelf: &mut F) -> Result<Answer, Stop>
-    ensures told { IfOk result (λ answer. IfSome (F.files shelf.old)
-        (λ files. IsReply (words_of words.now) files answer.status answer.text.items)) }
-    ensures printable { IfOk result (λ answer. IsPrintable answer.status) }
-    ensures usage { IfOk result (λ answer. answer.status ≡ Status.Usage
-        → IsUsage (words_of words.now) answer.text.items) }
-    ensures usage_only { HasNoForm (words_of words.now)
-        → IfOk result (λ answer. answer.status ≡ Status.Usage) }
-    ensures no_fault_without_form { HasNoForm (words_of words.now) → result ≢ Err Stop.ReadFault }
-    ensures complete { (files : Files) (t : Problem) (budget : ℕ)
-        → F.files shelf.old ≡ Some files → AsksToPlace (words_of words.now) files t budget
-        → IfOk result (λ answer. IsAnsweredBy answer.status) }
-    ensures refused { (files : Files) (text : List ℕ) → F.files shelf.old ≡ Some files
-        → IsBadInput (words_of words.now) files text
-        → IfOk result (λ answer. answer.status ≡ Status.BadInput) }
+/// The reply to the arguments. The shelf is read at most once.
+fn reply_to<F: Shelf>(alloc: Global, arguments: &[String], shelf: &mut F) -> Result<Reply, Stop>
+    ensures replied { IfOk result (λ reply. IsReplyOver (arguments_of arguments.now)
+        (F.files shelf.old) reply.outcome reply.text.items) }
+    ensures usage { IfOk result (λ reply. reply.outcome ≡ Outcome.Usage
+        → AreInvalid (arguments_of arguments.now) × (reply.text.items ≡ usage_text)) }
+    ensures invalid { AreInvalid (arguments_of arguments.now)
+        → IfOk result (λ reply. reply.outcome ≡ Outcome.Usage) }
+    ensures unread { AreInvalid (arguments_of arguments.now) → result ≢ Err Stop.ReadFault }
+    ensures unwritten { result ≢ Err Stop.WriteFault }
     ensures counted { result ≡ Err Stop.ReadFault → Rose (F.faults shelf.old) (F.faults shelf.new) }
     ensures uncounted { result ≢ Err Stop.ReadFault → F.faults shelf.new ≡ F.faults shelf.old }
     ensures same { F.files shelf.new ≡ F.files shelf.old }
 {
-    let place = match place_of(words) {
-        Some(place) => place,
-        None => return Ok(usage(alloc)?),
+    let Some(place) = place_command(arguments) else {
+        return Ok(usage(alloc)?);
     };
     match shelf.read(alloc, place.task, LONGEST_TASK) {
         Ok(bytes) => Ok(judge(alloc, bytes.as_slice(), place.budget)?),
@@ -69,71 +45,106 @@ fn reply<F: Shelf>(alloc: Global, words: &Vec<String>, shelf: &mut F) -> Result<
     }
 }
 
-/// Prints the answer whole.
-fn printed<O: Sink>(out: &mut O, answer: &Answer) -> Status
-    requires { IsPrintable answer.now.status }
-    ensures whole { result ≢ Status.WriteFault
-        → (result ≡ answer.now.status)
-        × Appends (O.content out.old) (O.content out.new) answer.now.text.items }
-    ensures part { result ≡ Status.WriteFault
-        → Rose (O.faults out.old) (O.faults out.new)
-        × AppendsPart (O.content out.old) (O.content out.new) answer.now.text.items }
-    ensures uncounted { result ≢ Status.WriteFault → O.faults out.new ≡ O.faults out.old }
+/// Prints the reply to the arguments.
+fn print_reply<F: Shelf, O: Sink>(
+    alloc: Global,
+    arguments: &[String],
+    shelf: &mut F,
+    out: &mut O,
+) -> Result<Outcome, Stop>
+    ensures { IsRun (arguments_of arguments.now)
+        (outside (F.files shelf.old) (F.faults shelf.old) (O.content out.old) (O.faults out.old))
+        (outside (F.files shelf.new) (F.faults shelf.new) (O.content out.new) (O.faults out.new))
+        result }
 {
-    match write_all(out, answer.text.as_slice()) {
-        Ok(()) => answer.status,
-        Err(_) => Status::WriteFault,
+    let reply = reply_to(alloc, arguments, shelf)?;
+    match write_all(out, reply.text.as_slice()) {
+        Ok(()) => Ok(reply.outcome),
+        Err(_) => Err(Stop::WriteFault),
     }
 }
 
-/// Does what the words ask for, and answers the exit status.
-///
-/// The words are those after the program's name. Nothing is printed but on `out`.
-pub fn run<F: Shelf, O: Sink>(alloc: Global, words: &Vec<String>, shelf: &mut F, out: &mut O) -> u8
-    // A plan, that none fits, and a budget that does not suffice, each of the task that the file spells.
-    ensures plan { result ≡ 0 → Prints (O.content out.old) (O.content out.new)
-        (λ text. IfSome (F.files shelf.old) (λ files. IsPlan (words_of words.now) files text)) }
-    ensures none_fits { result ≡ 4 → Prints (O.content out.old) (O.content out.new)
-        (λ text. IfSome (F.files shelf.old) (λ files. IsNone (words_of words.now) files text)) }
-    ensures over_budget { result ≡ 5 → Prints (O.content out.old) (O.content out.new)
-        (λ text. IfSome (F.files shelf.old) (λ files. IsOverBudget (words_of words.now) files text)) }
-
-    // Words in no form, and a file that spells no lawful task.
-    ensures usage { result ≡ 2 → Prints (O.content out.old) (O.content out.new)
-        (IsUsage (words_of words.now)) }
-    ensures usage_only { HasNoForm (words_of words.now) → (result ≡ 2) ⊎ ((result ≡ 7) ⊎ (result ≡ 9)) }
-    ensures bad_input { result ≡ 3 → Prints (O.content out.old) (O.content out.new)
-        (λ text. IfSome (F.files shelf.old) (λ files. IsBadInput (words_of words.now) files text)) }
-
-    // Faults of the outside, and want of memory.
-    ensures read_fault { result ≡ 6 → Rose (F.faults shelf.old) (F.faults shelf.new)
-        × (O.content out.new ≡ O.content out.old) }
-    ensures write_fault { result ≡ 7 → Rose (O.faults out.old) (O.faults out.new)
-        × PrintsPart (O.content out.old) (O.content out.new)
-        (λ text. IfSome (F.files shelf.old) (λ files. IsDue (words_of words.now) files text)) }
-    ensures no_memory { result ≡ 9 → O.content out.new ≡ O.content out.old }
-
-    // No other status exists; a count rises with its own status alone.
-    ensures statuses { IsStatus result }
-    ensures reads_uncounted { result ≢ 6 → F.faults shelf.new ≡ F.faults shelf.old }
-    ensures writes_uncounted { result ≢ 7 → O.faults out.new ≡ O.faults out.old }
-
-    // Where the file spells a lawful task and no count rose, the task is answered, or memory was wanting.
-    ensures complete { (files : Files) (t : Problem) (budget : ℕ)
-        → F.files shelf.old ≡ Some files → AsksToPlace (words_of words.now) files t budget
-        → (Rose (F.faults shelf.old) (F.faults shelf.new) → ⊥)
-        → (Rose (O.faults out.old) (O.faults out.new) → ⊥) → IsAnswered result }
-
-    // Where the file is too long, or spells no lawful task, and no count rose, it is refused, or memory was wanting.
-    ensures refused { (files : Files) (text : List ℕ)
-        → F.files shelf.old ≡ Some files → IsBadInput (words_of words.now) files text
-        → (Rose (F.faults shelf.old) (F.faults shelf.new) → ⊥)
-        → (Rose (O.faults out.old) (O.faults out.new) → ⊥) → IsRefusing result }
+fn exit_status(ending: Result<Outcome, Stop>) -> u8
+    ensures { result ≡ exit_status ending }
 {
-    match reply(alloc, words, shelf) {
-        Ok(answer) => printed(out, &answer).number(),
-        Err(Stop::ReadFault) => Status::ReadFault.number(),
-        Err(Stop::NoMemory) => Status::NoMemory.number(),
+    match ending {
+        Ok(Outcome::Plan) => 0,
+        Ok(Outcome::Usage) => 2,
+        Ok(Outcome::BadInput) => 3,
+        Ok(Outcome::NothingFits) => 4,
+        Ok(Outcome::OverBudget) => 5,
+        Err(Stop::ReadFault) => 6,
+        Err(Stop::WriteFault) => 7,
+        Err(Stop::NoMemory) => 9,
+    }
+}
+
+/// Prints the reply to the arguments and returns the exit status. `words` are the arguments without the
+/// program's name. Nothing is printed except on `out`.
+pub fn run<F: Shelf, O: Sink>(alloc: Global, words: &Vec<String>, shelf: &mut F, out: &mut O) -> u8
+    ensures { ExitsWith (arguments_of words.now.items)
+        (outside (F.files shelf.old) (F.faults shelf.old) (O.content out.old) (O.faults out.old))
+        (outside (F.files shelf.new) (F.faults shelf.new) (O.content out.new) (O.faults out.new))
+        result }
+{
+    exit_status(print_reply(alloc, words.as_slice(), shelf, out))
+}
+
+/// All arguments but the first.
+fn after_name(alloc: Global, all: Args) -> Result<Vec<String>, NoMemory>
+    ensures { IfOk result (λ arguments. arguments.items ≡ drop 1 (into_iter_items all)) }
+{
+    Ok(all.skip(1).collect(alloc)?)
+}
+
+/// The arguments after the program's name, in order. There are none if one of them is not UTF-8, since that
+/// is as invalid as none.
+fn arguments_from(alloc: Global, args: io::Result<Args>) -> Result<Vec<String>, NoMemory>
+    ensures text { IfOk args (λ all. IfOk result (λ arguments.
+        arguments.items ≡ drop 1 (into_iter_items all))) }
+    ensures not_text { IfErr args (λ error. error_kind error ≡ ErrorKind.InvalidData
+        → IsOkAnd result (λ arguments. arguments.items ≡ [])) }
+    ensures no_memory { IfErr args (λ error. error_kind error ≢ ErrorKind.InvalidData
+        → IsErr result) }
+{
+    match args {
+        Ok(all) => after_name(alloc, all),
+        Err(error) => match error.kind() {
+            ErrorKind::InvalidData => Ok(Vec::new(alloc)),
+            _ => Err(NoMemory),
+        },
+    }
+}
+
+/// Runs on the arguments as `std::env::args` provides them, and returns the exit status. The first of them is
+/// the program's name.
+pub fn execute<F: Shelf, O: Sink>(
+    alloc: Global,
+    args: io::Result<Args>,
+    shelf: &mut F,
+    out: &mut O,
+) -> u8
+    ensures runs { IfOk args (λ all. ExitsWith (arguments_of (drop 1 (into_iter_items all)))
+        (outside (F.files shelf.old) (F.faults shelf.old) (O.content out.old) (O.faults out.old))
+        (outside (F.files shelf.new) (F.faults shelf.new) (O.content out.new) (O.faults out.new))
+        result) }
+
+    // Arguments that are not UTF-8 are as invalid as none.
+    ensures not_text { IfErr args (λ error. error_kind error ≡ ErrorKind.InvalidData → ExitsWith []
+        (outside (F.files shelf.old) (F.faults shelf.old) (O.content out.old) (O.faults out.old))
+        (outside (F.files shelf.new) (F.faults shelf.new) (O.content out.new) (O.faults out.new))
+        result) }
+
+    // Any other error is out of memory, and nothing changes.
+    ensures no_memory { IfErr args (λ error. error_kind error ≢ ErrorKind.InvalidData
+        → result ≡ exit_status (Err Stop.NoMemory)) }
+    ensures unchanged { IfErr args (λ error. error_kind error ≢ ErrorKind.InvalidData
+        → outside (F.files shelf.new) (F.faults shelf.new) (O.content out.new) (O.faults out.new)
+        ≡ outside (F.files shelf.old) (F.faults shelf.old) (O.content out.old) (O.faults out.old)) }
+{
+    match arguments_from(alloc, args) {
+        Ok(arguments) => run(alloc, &arguments, shelf, out),
+        Err(_) => exit_status(Err(Stop::NoMemory)),
     }
 }
 

@@ -1,6 +1,7 @@
 // Whole runs over a file and an output in memory.
 use super::*;
 use load_io::{FileShelf, MemoryShelf, MemorySink};
+use std::process::Abort;
 use std::test::Fail;
 
 const POSITIONS: &str = "TASK 1
@@ -8,6 +9,12 @@ position 11 1 -600 AKE 1500
 position 12 1 -400 AKE 1500
 position 41 4 400 AKE 1500
 position 42 4 600 AKE 1500
+";
+
+const FORWARD: &str = "TASK 1
+position 11 1 -600 AKE 1500
+position 12 1 -400 AKE 1500
+exclude 11 12
 ";
 
 const ITEMS: &str = "item AKE10001XX 1000
@@ -53,6 +60,19 @@ combined 1000 11 51
 const UNKNOWN: &str = "exclude 11 43
 ";
 
+const COMBINED: &str = "TASK 1
+position 11 1 -500 AKE 1500
+bulk 51 5 800
+combined 1500 11 51
+item AKE10001XX 1200
+";
+
+const COMBINED_INDICES: &str = "base 50.00000
+window -20.00000 20.00000
+ideal 46.40000 46.40000
+END
+";
+
 const PLAN: &str = "PLAN
 place AKE10001XX 12
 place AKE10002XX 41
@@ -65,164 +85,192 @@ index 50.00000
 distance 0.00000
 ";
 
-// Words from their texts.
-fn words_from(alloc: Global, texts: &[&str]) -> Result<Vec<String>, Fail> {
-    let mut words = Vec::new(alloc);
+const COMBINED_PLAN: &str = "PLAN
+place AKE10001XX 11
+index 46.40000
+distance 0.00000
+";
+
+// The arguments, the parts of the file `t`, and the exit status and text of the run.
+type Row<'a> = (&'a [&'a str], &'a [&'a str], u8, &'a str);
+
+// The arguments as the system provides them, after the program's name.
+fn args_from(alloc: Global, texts: &[&str]) -> Result<Args, Fail> {
+    let mut args = vec![in alloc; String::from_str(alloc, "loadctl")?]?;
     for text in texts {
-        words.push(String::from_str(alloc, text)?)?;
+        args.push(String::from_str(alloc, text)?)?;
     }
-    Ok(words)
+    Ok(args.into_iter())
 }
 
-// A shelf with one file `t`, whose listed reads fail.
-fn shelf_with(alloc: Global, text: &str, fail: Vec<u64>) -> Result<MemoryShelf, Fail> {
+// A shelf with one file `t`, where the reads with the listed numbers fail.
+fn shelf_with(alloc: Global, parts: &[&str], fail: Vec<u64>) -> Result<MemoryShelf, Fail> {
+    let mut text = String::new(alloc);
+    for part in parts {
+        text.push_str(part)?;
+    }
     let mut files = Vec::new(alloc);
-    files.push((
-        String::from_str(alloc, "t")?,
-        Vec::from_slice(alloc, text.as_bytes())?,
-    ))?;
+    files.push((String::from_str(alloc, "t")?, text.into_bytes()))?;
     Ok(MemoryShelf::new(files, fail))
 }
 
-// A run of these words over a file `t` of these parts: its status and what it printed, in `room` bytes.
+// The exit status of a run with these arguments, and what it printed in `room` bytes.
 fn run_of(
     alloc: Global,
     texts: &[&str],
     parts: &[&str],
     room: usize,
 ) -> Result<(u8, Vec<u8>), Fail> {
-    let mut text = String::new(alloc);
-    for part in parts {
-        text.push_str(part)?;
-    }
-    let mut shelf = shelf_with(alloc, text.as_str(), Vec::new(alloc))?;
+    let mut shelf = shelf_with(alloc, parts, Vec::new(alloc))?;
     let mut out = MemorySink::new(alloc, room, Vec::new(alloc))?;
-    let words = words_from(alloc, texts)?;
-    let status = run(alloc, &words, &mut shelf, &mut out);
+    let args = args_from(alloc, texts)?;
+    let status = execute(alloc, Ok(args), &mut shelf, &mut out);
     Ok((status, Vec::from_slice(alloc, out.written())?))
 }
 
+fn check_rows(rt: &impl Abort, alloc: Global, rows: &[Row<'_>]) -> Result<(), Fail> {
+    for (i, (texts, parts, status, printed)) in rows.iter().enumerate() {
+        let (ended, written) = run_of(alloc, texts, parts, 1000)?;
+        assert_eq!(rt; ended, *status, "in row {i}");
+        assert_eq!(rt; written.as_slice(), printed.as_bytes(), "in row {i}");
+    }
+    Ok(())
+}
+
 #[test]
-fn the_worked_task_is_answered(rt: HostRuntime) -> Result<(), Fail> {
-    let rows: [(&[&str], &[&str], u8, &str); 8] = [
-        (&["place", "t"], &[POSITIONS, ITEMS, INDICES], 0, PLAN),
-        (&["place", "t", "8"], &[POSITIONS, ITEMS, INDICES], 0, PLAN),
+fn worked_tasks_are_answered(rt: HostRuntime) -> Result<(), Fail> {
+    let place: &[&str] = &["place", "t"];
+    let worked: &[&str] = &[POSITIONS, ITEMS, INDICES];
+    let rows: [Row<'_>; 11] = [
+        (place, worked, 0, PLAN),
+        (&["place", "t", "8"], worked, 0, PLAN),
         (
             &["place", "t", "8"],
             &[POSITIONS, OTHER_ITEMS, INDICES],
             0,
             PLAN,
         ),
-        (
-            &["place", "t", "7"],
-            &[POSITIONS, ITEMS, INDICES],
-            5,
-            "BUDGET 7\n",
-        ),
-        (
-            &["place", "t", "1"],
-            &[POSITIONS, ITEMS, INDICES],
-            5,
-            "BUDGET 1\n",
-        ),
+        (&["place", "t", "7"], worked, 5, "BUDGET 7\n"),
+        (&["place", "t", "1"], worked, 5, "BUDGET 1\n"),
         (&["place", "t", "8"], &[POSITIONS, INDICES], 0, EMPTY_PLAN),
-        (&["place", "t"], &[POSITIONS, ITEMS, NARROW], 4, "NONE\n"),
+        (place, &[POSITIONS, ITEMS, NARROW], 4, "NONE\n"),
         (
             &["place", "t", "50000"],
             &[POSITIONS, ITEMS, NARROW],
             4,
             "NONE\n",
         ),
+        // A combined limit that is met exactly, and one kilogram more.
+        (
+            place,
+            &[COMBINED, "loose 51 300\n", COMBINED_INDICES],
+            0,
+            COMBINED_PLAN,
+        ),
+        (
+            place,
+            &[COMBINED, "loose 51 301\n", COMBINED_INDICES],
+            4,
+            "NONE\n",
+        ),
+        // Two positions that exclude each other.
+        (place, &[FORWARD, ITEMS, INDICES], 4, "NONE\n"),
     ];
-    for (words, parts, status, printed) in rows {
-        let (ended, written) = run_of(rt.alloc(), words, parts, 1000)?;
-        assert_eq!(rt; ended, status);
-        assert_eq!(rt; written.as_slice(), printed.as_bytes());
-    }
-    Ok(())
+    check_rows(&rt, rt.alloc(), &rows)
 }
 
 #[test]
 fn a_wrong_file_is_refused_with_its_line(rt: HostRuntime) -> Result<(), Fail> {
-    let rows: [(&[&str], &str); 7] = [
-        (&[POSITIONS, TWICE, INDICES], "INPUT TASK 2\n"),
-        (&[POSITIONS, ITEMS, SHORT_BASE], "INPUT LINE 8\n"),
-        (&[POSITIONS, ITEMS, CUT], "INPUT END\n"),
-        (&[POSITIONS, UNKNOWN, INDICES], "INPUT LINE 6\n"),
+    let place: &[&str] = &["place", "t"];
+    let rows: [Row<'_>; 7] = [
+        (place, &[POSITIONS, TWICE, INDICES], 3, "INPUT TASK 2\n"),
+        (place, &[POSITIONS, ITEMS, SHORT_BASE], 3, "INPUT LINE 8\n"),
+        (place, &[POSITIONS, ITEMS, CUT], 3, "INPUT END\n"),
+        (place, &[POSITIONS, UNKNOWN, INDICES], 3, "INPUT LINE 6\n"),
         (
+            place,
             &[POSITIONS, LIMITS, "loose 11 5\n", INDICES],
+            3,
             "INPUT TASK 4\n",
         ),
-        (&["TASK 1\n", ITEMS, INDICES], "INPUT HOLD 1\n"),
-        (&[POSITIONS, ITEMS, INDICES, "\n"], "INPUT LINE 12\n"),
+        (place, &["TASK 1\n", ITEMS, INDICES], 3, "INPUT HOLD 1\n"),
+        (
+            place,
+            &[POSITIONS, ITEMS, INDICES, "\n"],
+            3,
+            "INPUT LINE 12\n",
+        ),
     ];
-    for (parts, printed) in rows {
-        let (ended, written) = run_of(rt.alloc(), &["place", "t"], parts, 1000)?;
-        assert_eq!(rt; ended, 3);
-        assert_eq!(rt; written.as_slice(), printed.as_bytes());
+    check_rows(&rt, rt.alloc(), &rows)
+}
+
+#[test]
+fn invalid_arguments_are_refused(rt: HostRuntime) -> Result<(), Fail> {
+    let worked: &[&str] = &[POSITIONS, ITEMS, INDICES];
+    let rows: [Row<'_>; 9] = [
+        (&[], worked, 2, "USAGE\n"),
+        (&["place"], worked, 2, "USAGE\n"),
+        (&["place", "a", "b", "c"], worked, 2, "USAGE\n"),
+        (&["place", "t", "0"], worked, 2, "USAGE\n"),
+        (&["place", "t", "50001"], worked, 2, "USAGE\n"),
+        (&["place", "t", "017"], worked, 2, "USAGE\n"),
+        (&["place", "-x"], worked, 2, "USAGE\n"),
+        (&["plan", "t"], worked, 2, "USAGE\n"),
+        (&["place", "t", "17 "], worked, 2, "USAGE\n"),
+    ];
+    check_rows(&rt, rt.alloc(), &rows)
+}
+
+// The errors that the system's arguments can have.
+#[test]
+fn arguments_that_are_not_text_are_invalid(rt: HostRuntime) -> Result<(), Fail> {
+    let rows: [(ErrorKind, u8, &[u8]); 2] = [
+        (ErrorKind::InvalidData, 2, b"USAGE\n"),
+        (ErrorKind::OutOfMemory, 9, b""),
+    ];
+    let alloc = rt.alloc();
+    for (kind, status, printed) in rows {
+        let mut shelf = shelf_with(alloc, &[], Vec::new(alloc))?;
+        let mut out = MemorySink::new(alloc, 100, Vec::new(alloc))?;
+        let args = Err(io::Error::from(kind));
+        assert_eq!(rt; execute(alloc, args, &mut shelf, &mut out), status);
+        assert_eq!(rt; out.written(), printed);
     }
     Ok(())
 }
 
 #[test]
-fn words_in_no_form_are_refused(rt: HostRuntime) -> Result<(), Fail> {
-    let rows: [&[&str]; 9] = [
-        &[],
-        &["place"],
-        &["place", "a", "b", "c"],
-        &["place", "t", "0"],
-        &["place", "t", "50001"],
-        &["place", "t", "017"],
-        &["place", "-x"],
-        &["plan", "t"],
-        &["place", "t", "17 "],
-    ];
-    for words in rows {
-        let (ended, written) = run_of(rt.alloc(), words, &[POSITIONS, ITEMS, INDICES], 1000)?;
-        assert_eq!(rt; ended, 2);
-        assert_eq!(rt; written.as_slice(), b"USAGE\n".as_slice());
-    }
-    Ok(())
-}
-
-#[test]
-fn faults_of_the_outside_end_the_run(rt: HostRuntime) -> Result<(), Fail> {
-    let (ended, written) = run_of(rt.alloc(), &["place", "u"], &[POSITIONS], 1000)?;
+fn failures_outside_end_the_run(rt: HostRuntime) -> Result<(), Fail> {
+    let alloc = rt.alloc();
+    let (ended, written) = run_of(alloc, &["place", "u"], &[POSITIONS], 1000)?;
     assert_eq!(rt; ended, 6);
     assert_eq!(rt; written.len(), 0);
-    let (ended, written) = run_of(
-        rt.alloc(),
-        &["place", "t"],
-        &[POSITIONS, ITEMS, INDICES],
-        20,
-    )?;
-    assert_eq!(rt; ended, 7);
-    assert_eq!(rt; written.as_slice(), &PLAN.as_bytes()[..20]);
-    let mut shelf = shelf_with(rt.alloc(), INDICES, vec![in rt.alloc(); 1]?)?;
-    let mut out = MemorySink::new(rt.alloc(), 100, Vec::new(rt.alloc()))?;
-    let words = words_from(rt.alloc(), &["place", "t"])?;
-    assert_eq!(rt; run(rt.alloc(), &words, &mut shelf, &mut out), 6);
+    let mut shelf = shelf_with(alloc, &[INDICES], vec![in alloc; 1]?)?;
+    let mut out = MemorySink::new(alloc, 100, Vec::new(alloc))?;
+    let args = args_from(alloc, &["place", "t"])?;
+    assert_eq!(rt; execute(alloc, Ok(args), &mut shelf, &mut out), 6);
     assert_eq!(rt; out.written().len(), 0);
     Ok(())
 }
 
 #[test]
 fn a_file_that_is_too_long_is_refused(rt: HostRuntime) -> Result<(), Fail> {
-    let mut files = Vec::new(rt.alloc());
+    let alloc = rt.alloc();
+    let mut files = Vec::new(alloc);
     files.push((
-        String::from_str(rt.alloc(), "t")?,
-        vec![in rt.alloc(); b'x'; LONGEST_TASK + 1]?,
+        String::from_str(alloc, "t")?,
+        vec![in alloc; b'x'; LONGEST_TASK + 1]?,
     ))?;
-    let mut shelf = MemoryShelf::new(files, Vec::new(rt.alloc()));
-    let mut out = MemorySink::new(rt.alloc(), 100, Vec::new(rt.alloc()))?;
-    let words = words_from(rt.alloc(), &["place", "t"])?;
-    assert_eq!(rt; run(rt.alloc(), &words, &mut shelf, &mut out), 3);
+    let mut shelf = MemoryShelf::new(files, Vec::new(alloc));
+    let mut out = MemorySink::new(alloc, 100, Vec::new(alloc))?;
+    let args = args_from(alloc, &["place", "t"])?;
+    assert_eq!(rt; execute(alloc, Ok(args), &mut shelf, &mut out), 3);
     assert_eq!(rt; out.written(), b"INPUT LONG\n".as_slice());
     Ok(())
 }
 
 #[test]
-fn an_output_that_is_cut_off_has_a_first_part(rt: HostRuntime) -> Result<(), Fail> {
+fn an_output_that_is_cut_off_has_a_proper_prefix(rt: HostRuntime) -> Result<(), Fail> {
     let plan = PLAN.as_bytes();
     for room in 0..plan.len() {
         let (ended, written) = run_of(
@@ -238,11 +286,11 @@ fn an_output_that_is_cut_off_has_a_first_part(rt: HostRuntime) -> Result<(), Fai
 }
 
 #[test]
-fn a_real_file_that_is_absent_ends_the_run(rt: HostRuntime) -> Result<(), Fail> {
+fn a_real_file_that_does_not_exist_ends_the_run(rt: HostRuntime) -> Result<(), Fail> {
     let mut shelf = FileShelf::new(rt);
     let mut out = MemorySink::new(rt.alloc(), 100, Vec::new(rt.alloc()))?;
-    let words = words_from(rt.alloc(), &["place", "there/is/no/such.task"])?;
-    assert_eq!(rt; run(rt.alloc(), &words, &mut shelf, &mut out), 6);
+    let args = args_from(rt.alloc(), &["place", "there/is/no/such.task"])?;
+    assert_eq!(rt; execute(rt.alloc(), Ok(args), &mut shelf, &mut out), 6);
     assert_eq!(rt; out.written().len(), 0);
     Ok(())
 }

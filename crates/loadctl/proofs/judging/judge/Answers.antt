@@ -1,26 +1,23 @@
-use Rattle.std.proofs.lemmas.Result.{IfOk-weaker}
-use Rattle.loadctl.specs.AnswerText.IsRefusal.{no_task}
-use Rattle.loadctl.proofs.JudgingLemmas.{judgement-from_outcome, no_fault-from_lawful, no_refusal-from_lawful}
+use Rattle.std.proofs.Common.{◌≡◌, ℕ, ◌≤◌, List, length, Result, Ok, Err}
+use Rattle.std.specs.Result.{IfOk}
+use Rattle.desk_base.specs.declared.NoMemory.{NoMemory}
+use Rattle.problem_text.specs.Refusals.{IsRefused}
+use Rattle.problem_text.specs.declared.fault.TextFault.{TextFault}
+use Rattle.loadctl.specs.declared.judging.Reply.{Reply}
+use Rattle.loadctl.specs.declared.ending.Outcome.TheVariants.{BadInput}
+use Rattle.loadctl.specs.ReplyText.{longest_task, IsFaultLine}
+use Rattle.loadctl.specs.Reply.{IsAnswer}
+use Rattle.loadctl.proofs.ReplyLemmas.{refusal-answer, IsTaskIn-from_read}
 use Rattle.loadctl.proofs.judging.judge.Goals as goal
 
-pub returns-in-Ok-clause-judged : goal.returns-in-Ok-clause-judged
-returns-in-Ok-clause-judged c =
-    IfOk-weaker c.outcome_of.result _ _
-    (λ answer is. judgement-from_outcome c.args.bytes.now c.args.budget c.in-Ok.task answer.status answer.text.items c.in-Ok.ensures.read.0 c.in-Ok.ensures.read.1 is)
-    c.outcome_of.ensures
+refused : (bytes : List ℕ) (budget : ℕ) (fault : TextFault) (result : Result Reply NoMemory) → length bytes ≤ longest_task → IsRefused bytes fault
+    → IfOk result (λ reply. reply.outcome ≡ BadInput) → IfOk result (λ reply. IsFaultLine fault reply.text.items)
+    → IfOk result (λ reply. IsAnswer bytes budget reply.outcome reply.text.items)
+refused bytes budget fault (Ok reply) short is outcome line = refusal-answer bytes budget fault reply.outcome reply.text.items short is outcome line
+refused bytes budget fault (Err e) short is outcome line = tt
 
-pub returns-in-Ok-clause-refused : goal.returns-in-Ok-clause-refused
-returns-in-Ok-clause-refused c =
-    λ line refusal. absurd (no_refusal-from_lawful c.args.bytes.now line c.in-Ok.task c.requires (record { spelled = c.in-Ok.ensures.read.0; hold = c.in-Ok.ensures.read.1.hold.right; task = c.in-Ok.ensures.read.1.right }) refusal)
+pub returns-in-Ok : goal.returns-in-Ok
+returns-in-Ok c = c.verdict_on.ensures c.args.bytes.now (IsTaskIn-from_read _ _ c.requires c.in-Ok.ensures.read.0 c.in-Ok.ensures.read.1)
 
-pub returns-in-Err-clause-judged : goal.returns-in-Err-clause-judged
-returns-in-Err-clause-judged c =
-    IfOk-weaker c.refusal_of.result _ _
-    (λ answer is. rw is.0 (no_task c.in-Err.fault answer.text.items c.requires c.in-Err.ensures.refused is.1))
-    c.refusal_of.ensures
-
-pub returns-in-Err-clause-complete : goal.returns-in-Err-clause-complete
-returns-in-Err-clause-complete c =
-    λ t lawful. IfOk-weaker c.refusal_of.result _ _
-    (λ answer is. absurd (no_fault-from_lawful c.args.bytes.now c.in-Err.fault answer.text.items t lawful c.in-Err.ensures.refused is.1))
-    c.refusal_of.ensures
+pub returns-in-Err : goal.returns-in-Err
+returns-in-Err c = refused c.args.bytes.now c.args.budget c.in-Err.fault c.refusal_of.result c.requires c.in-Err.ensures.refused c.refusal_of.ensures.refused c.refusal_of.ensures.line

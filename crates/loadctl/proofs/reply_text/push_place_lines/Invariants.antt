@@ -1,8 +1,8 @@
 use Rattle.std.proofs.Common.{◌≡◌, ◌++◌, take}
 use Rattle.hold_limits.specs.Placement.{placed}
 use Rattle.problem_text.specs.TaskText.{text_of}
-use Rattle.loadctl.specs.AnswerText.{place_lines}
-use Rattle.loadctl.proofs.answer_text.push_place_lines.Given as goal
+use Rattle.loadctl.specs.ReplyText.{place_lines}
+use Rattle.loadctl.proofs.reply_text.push_place_lines.Given as goal
 
 abbrev pub invariant-loop-rank : goal.invariant-loop-rank
 invariant-loop-rank l = l.text.items ≡ l.fn.text.items ++ text_of (place_lines l.task (take l.rank (placed l.task l.path)))

@@ -3,9 +3,9 @@ use Rattle.std.specs.Prelude.{codes, pos}
 use Rattle.mass_units.specs.Spelling.{index_text}
 use Rattle.hold_limits.specs.Placement.{placed, take_off_index, distance}
 use Rattle.problem_text.specs.TaskText.{text_of}
-use Rattle.loadctl.specs.AnswerText.{one_line, place_lines}
+use Rattle.loadctl.specs.ReplyText.{one_line, place_lines}
 use Rattle.loadctl.proofs.TextLemmas.{plan_text-is}
-use Rattle.loadctl.proofs.answer_text.plan_of.Goals as goal
+use Rattle.loadctl.proofs.reply_text.plan_of.Goals as goal
 
 index_line : List ℕ → ℤ → List ℕ
 index_line word z = one_line (word ∷ index_text z ∷ [])

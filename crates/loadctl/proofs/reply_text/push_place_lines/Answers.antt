@@ -1,13 +1,13 @@
 use Rattle.std.proofs.Common.{◌≡◌, ◌∷◌, [], ◌++◌, List, get_or, take, ap, ap₂, sym, ◌∙◌, append_assoc, arith}
 use Rattle.std.proofs.lemmas.List.{take_all}
 use Rattle.std.specs.Prelude.{codes}
-use Rattle.hold_limits.specs.Layout.{Layout}
+use Rattle.hold_limits.specs.Layout.{Layout, name_at}
 use Rattle.hold_limits.specs.Placement.{Placed, placed}
 use Rattle.hold_limits.proofs.PlacedLemmas.{length-placed}
-use Rattle.problem_text.specs.TaskText.{text_of, name_at}
-use Rattle.loadctl.specs.AnswerText.{one_line, place_line, place_lines}
+use Rattle.problem_text.specs.TaskText.{text_of}
+use Rattle.loadctl.specs.ReplyText.{one_line, place_line, place_lines}
 use Rattle.loadctl.proofs.TextLemmas.{place_lines-more}
-use Rattle.loadctl.proofs.answer_text.push_place_lines.Goals as goal
+use Rattle.loadctl.proofs.reply_text.push_place_lines.Goals as goal
 
 pub loop-rank-preserved : goal.loop-rank-preserved
 loop-rank-preserved c =
@@ -16,8 +16,8 @@ loop-rank-preserved c =
     let rank = c.loop-rank.rank in
     let q = get_or path rank 0 in
     let item = c.at_rank-item.result.now in
-    let name = c.name_of.ensures ∙ ap (λ (h : Layout). name_at h.positions q) c.hold.ensures.value in
-    let line : one_line (codes "place" ∷ c.bytes.result.now ∷ c.name_of.result.now ∷ []) ≡ text_of (place_line t.hold (item, q) ∷ []) =
+    let name = c.name_at.ensures ∙ ap (λ (h : Layout). name_at h.positions q) c.hold.ensures.value in
+    let line : one_line (codes "place" ∷ c.bytes.result.now ∷ c.name_at.result.now ∷ []) ≡ text_of (place_line t.hold (item, q) ∷ []) =
     ap₂ (λ a b. one_line (codes "place" ∷ a ∷ b ∷ [])) c.bytes.ensures.value name in
     let more = place_lines-more t path rank item c.requires c.loop-rank-test.true c.at_rank-item.ensures.value in
     c.in_ok-push_place_line.ensures

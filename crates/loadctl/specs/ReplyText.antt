@@ -1,19 +1,18 @@
--- what the program prints
-use Rattle.std.specs.Prelude.{◌≡◌, ℕ, ◌<◌, ◌≤◌, pos, List, [], ◌∷◌, ◌++◌, length, map, codes}
+-- What the program prints.
+use Rattle.std.specs.Prelude.{◌≡◌, ℕ, pos, List, [], ◌∷◌, ◌++◌, map, codes}
 use Rattle.mass_units.specs.Spelling.{number_text, index_text}
 use Rattle.hold_limits.specs.declared.fault.HoldFault.{HoldFault}
 use Rattle.hold_limits.specs.declared.fault.HoldFault.TheVariants as hold
 use Rattle.hold_limits.specs.declared.fault.TaskFault.{TaskFault}
 use Rattle.hold_limits.specs.declared.fault.TaskFault.TheVariants as task
-use Rattle.hold_limits.specs.Layout.{Layout}
+use Rattle.hold_limits.specs.Layout.{Layout, name_at}
 use Rattle.hold_limits.specs.Problem.{Problem}
 use Rattle.hold_limits.specs.Placement.{Placed, placed, take_off_index, distance}
-use Rattle.problem_text.specs.TaskText.{line_of, text_of, name_at}
-use Rattle.problem_text.specs.Refusals.{IsRefused}
+use Rattle.problem_text.specs.TaskText.{line_of, text_of}
 use Rattle.problem_text.specs.declared.fault.TextFault.{TextFault}
 use Rattle.problem_text.specs.declared.fault.TextFault.TheVariants as text
 
--- one line of these words
+-- a line of these words
 abbrev pub one_line : List (List ℕ) → List ℕ
 one_line words = text_of (line_of words ∷ [])
 
@@ -43,7 +42,7 @@ budget_text budget = one_line (codes "BUDGET" ∷ number_text budget ∷ [])
 abbrev pub usage_text : List ℕ
 usage_text = one_line (codes "USAGE" ∷ [])
 
--- a line that says what is wrong with the input: its kind and a number
+-- a line that reports a fault of the input: its kind and a number
 abbrev pub input_text : List ℕ → ℕ → List ℕ
 input_text kind n = one_line (codes "INPUT" ∷ kind ∷ number_text n ∷ [])
 
@@ -68,25 +67,17 @@ task_fault_number (task.LooseTwice at) = 5
 task_fault_number (task.LooseTooHeavy at) = 6
 task_fault_number (task.Range which) = 7
 
--- a file of a task has at most so many bytes
+-- a task's file has at most so many bytes
 abbrev pub longest_task : ℕ
 longest_task = 1048576
 
 abbrev pub long_text : List ℕ
 long_text = one_line (codes "INPUT" ∷ codes "LONG" ∷ [])
 
--- the line for a fault of a text; want of memory has none
+-- the line for a fault of a text; out of memory has none
 abbrev pub IsFaultLine : TextFault → List ℕ → Type 0
 IsFaultLine (text.Line n) line = line ≡ input_text (codes "LINE") n
 IsFaultLine text.NoEnd line = line ≡ one_line (codes "INPUT" ∷ codes "END" ∷ [])
 IsFaultLine (text.Hold fault) line = line ≡ input_text (codes "HOLD") (hold_fault_number fault)
 IsFaultLine (text.Task fault) line = line ≡ input_text (codes "TASK") (task_fault_number fault)
 IsFaultLine text.NoMemory line = ⊥
-
--- why the bytes of a file are refused, and the line that says so
-pub data IsRefusal (bytes : List ℕ) : List ℕ → Type 0 where
-  -- they are too many
-  too_long : longest_task < length bytes → IsRefusal bytes long_text
-  -- they spell no lawful task: this is their first fault
-  no_task : (fault : TextFault) (line : List ℕ) → length bytes ≤ longest_task → IsRefused bytes fault → IsFaultLine fault line
-      → IsRefusal bytes line

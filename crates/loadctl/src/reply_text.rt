@@ -1,18 +1,17 @@
 //! The texts that the program prints, line by line.
 
-ghost use Rattle.std.specs.Prelude.{◌≡◌, ◌++◌, ◌∷◌, [], ◌<◌, ◌≤◌, ◌^◌, pos, length, map, take, codes, OnOk, IfOk, slice_get, Some};
-ghost use Rattle.mass_units.specs.Spelling.{number_text, index_text};
-ghost use Rattle.hold_limits.specs.BranchOrder.{ordered};
+ghost use Rattle.std.specs.Prelude.{◌≡◌, ◌++◌, ◌∷◌, [], ◌<◌, ◌≤◌, ◌^◌, pos, length, take, codes, OnOk, IfOk};
+ghost use Rattle.mass_units.specs.Spelling.{index_text};
 ghost use Rattle.hold_limits.specs.Placement.{IsSound, placed};
-ghost use Rattle.problem_text.specs.TaskText.{line_of, text_of, name_at};
-ghost use Rattle.loadctl.specs.AnswerText.{one_line, place_line, place_lines, plan_text, none_text, budget_text, usage_text, input_text};
+ghost use Rattle.problem_text.specs.TaskText.{text_of};
+ghost use Rattle.loadctl.specs.ReplyText.{one_line, place_lines, plan_text, budget_text, input_text};
 
 use desk_base::NoMemory;
-use hold_limits::{Hold, Path, Task, outcome};
+use hold_limits::{Path, Task, outcome};
 use mass_units::{Ticks, write_number, write_ticks5};
 use std::alloc::Global;
 
-/// One line of one word.
+/// A line of one word.
 pub fn word_line(alloc: Global, word: &[u8]) -> Result<Vec<u8>, NoMemory>
     ensures { IfOk result (λ text. text.items ≡ one_line (word.now ∷ [])) }
 {
@@ -22,7 +21,7 @@ pub fn word_line(alloc: Global, word: &[u8]) -> Result<Vec<u8>, NoMemory>
     Ok(text)
 }
 
-/// One line of two words.
+/// A line of two words.
 pub fn two_word_line(alloc: Global, first: &[u8], second: &[u8]) -> Result<Vec<u8>, NoMemory>
     ensures { IfOk result (λ text. text.items ≡ one_line (first.now ∷ second.now ∷ [])) }
 {
@@ -75,16 +74,6 @@ fn push_index_line(
     Ok(())
 }
 
-/// The name of a position, and nothing where the number is no position's.
-fn name_of(hold: &Hold, number: u8) -> &[u8]
-    ensures { result.now ≡ name_at hold.now.positions number }
-{
-    match hold.positions().get(number as usize) {
-        Some(position) => position.name.bytes(),
-        None => b"",
-    }
-}
-
 /// Appends `place ID NAME`.
 fn push_place_line(text: &mut Vec<u8>, id: &[u8], name: &[u8]) -> Result<(), NoMemory>
     ensures { OnOk result (text.new.items
@@ -106,7 +95,7 @@ fn push_place_lines(text: &mut Vec<u8>, task: &Task, path: &[u8]) -> Result<(), 
 {
     for rank in 0..path.len() {
         let item = task.at_rank(rank);
-        push_place_line(text, item.id.bytes(), name_of(task.hold(), path[rank]))?;
+        push_place_line(text, item.id.bytes(), task.hold().name_at(path[rank]))?;
     }
     Ok(())
 }
@@ -119,8 +108,8 @@ fn ticks_of(distance: u64) -> Ticks
     Ticks(distance as i64)
 }
 
-/// The plan of a sound path: a line for each container in branch order, the take-off index, and its
-/// distance from the ideal.
+/// The plan of a sound path: a line for each container in branch order, the take-off index, and its distance
+/// from the ideal index.
 pub fn plan_of(alloc: Global, task: &Task, path: &Path) -> Result<Vec<u8>, NoMemory>
     requires { IsSound task.now path.now.items }
     ensures { IfOk result (λ text. text.items ≡ plan_text task.now path.now.items) }

@@ -1,4 +1,4 @@
--- what holds of each word, said of the words or of their bytes
+-- Facts about each argument and about its bytes.
 use Rattle.std.proofs.Common.{List, [], ◌∷◌, map, arith, Option, Some, None}
 use Rattle.std.proofs.lemmas.List.Elements.{All-cons, All-head, All-tail}
 use Rattle.std.specs.Option.{IfNone}
