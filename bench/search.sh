@@ -8,7 +8,7 @@
 set -eu
 
 top=$(dirname "$(dirname "$(readlink -f "$0")")")
-program=${1-$top/crates/loadctl/out/loadctl}
+program=${1-$top/out/loadctl}
 usual=20000
 
 if ! command -v valgrind >/dev/null; then
@@ -42,8 +42,8 @@ instructions() {
         sed -n 's/.*Collected : *//p'
 }
 
-if [ $# -eq 0 ] && ! "$top/loadctl" place "$top/examples/worked.task" >/dev/null; then
-    echo "bench/search.sh: the program does not answer the worked task, so nothing is measured." >&2
+if ! "$program" place "$top/examples/worked.task" >/dev/null; then
+    echo "bench/search.sh: $program does not answer the worked task, so nothing is measured; ./prove builds it." >&2
     exit 1
 fi
 

@@ -4,12 +4,12 @@
 set -eu
 
 top=$(dirname "$(dirname "$(readlink -f "$0")")")
-program=$top/crates/loadctl/out/loadctl
+program=$top/out/loadctl
 task=$top/examples/worked.task
 runs=101
 
-if ! "$top/loadctl" place "$task" >/dev/null; then
-    echo "bench/small.sh: the program does not answer the worked task, so nothing is measured." >&2
+if ! "$program" place "$task" >/dev/null; then
+    echo "bench/small.sh: $program does not answer the worked task, so nothing is measured; ./prove builds it." >&2
     exit 1
 fi
 
