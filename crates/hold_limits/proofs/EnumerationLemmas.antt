@@ -7,21 +7,23 @@ use Rattle.std.proofs.lemmas.List.Elements.{recursion_from_All}
 use Rattle.std.proofs.lemmas.List.Folds.{Any-from_list_any, list_any-from_Any}
 use Rattle.std.proofs.lemmas.List.Kept.{AllPairs-cons}
 use Rattle.std.proofs.lemmas.Slice.Eq.{bytes_eq-Decides}
-use Rattle.std.specs.Prelude.{int_le, All, Any, AllPairs, MatchOption, IsSomeAnd, slice_get}
+use Rattle.std.specs.Prelude.{unsigned_abs, int_le, All, Any, AllPairs, MatchOption, IsSomeAnd, IfSome, slice_get}
 use Rattle.std.specs.Bool.{Decides}
 use Rattle.std.specs.List.{AllByRecursion, list_all, list_any, range_with_len}
 use Rattle.std.specs.Option.{option_map_or}
 use Rattle.hold_parts.specs.declared.lists.Fit.{Fit}
 use Rattle.hold_parts.specs.declared.parts.Combined.{Combined}
 use Rattle.hold_parts.specs.declared.parts.Cumulative.{Cumulative}
+use Rattle.hold_parts.specs.declared.parts.Lateral.{Lateral}
 use Rattle.hold_parts.specs.declared.parts.Item.{Item}
 use Rattle.hold_parts.specs.declared.parts.Position.{Position}
 use Rattle.hold_limits.specs.Layout.{Layout}
+use Rattle.hold_limits.specs.Lateral.{IsWithinLateral}
 use Rattle.hold_limits.specs.Problem.{Problem}
-use Rattle.hold_limits.specs.Placement.{Placed, placed, IsAccepted, Exclude, load_of, IsSound, hold_index, IsAdmissible, key, key_cmp, IsAtMost, IsBest}
+use Rattle.hold_limits.specs.Placement.{Placed, placed, IsAccepted, Exclude, load_of, IsSound, hold_index, lateral_difference, IsAdmissible, key, key_cmp, IsAtMost, IsBest}
 use Rattle.hold_parts.specs.Limits.{is_listed, is_counted}
 use Rattle.hold_parts.specs.Accepting.{kind_of, Accepts, accepts}
-use Rattle.hold_limits.specs.Enumeration.{list_all_pairs, is_accepted, exclude, keeps_limits, is_sound, is_admissible, all_paths, candidates, better, best_among, best_by_trial}
+use Rattle.hold_limits.specs.Enumeration.{list_all_pairs, is_accepted, exclude, keeps_limits, is_sound, is_within_lateral, is_admissible, all_paths, candidates, better, best_among, best_by_trial}
 use Rattle.hold_limits.proofs.KeyOrder.{IsAtMost-refl, IsAtMost-trans, IsAtMost-from_greater}
 use Rattle.desk_base.proofs.PairLemmas.{AllPairs-head, AllPairs-tail}
 use Rattle.hold_limits.proofs.SoundLemmas.{IsSound-within}
@@ -53,7 +55,7 @@ Any-Decides p P each xs = (
 pub All-Decides : {X : Type 0} (p : X → Bool) (P : X → Type 0) (each : (x : X) → Decides (p x) (P x)) (xs : List X) → Decides (list_all p xs) (All P xs)
 All-Decides p P each xs = Decides-by_and p P (list_all p) each refl (λ _ _. refl) xs
 
-AllPairs-Decides : {X : Type 0} (test : X → X → Bool) (R : X → X → Type 0) (each : (x y : X) → Decides (test x y) (R x y)) (xs : List X) → Decides (list_all_pairs test xs) (AllPairs R xs)
+pub AllPairs-Decides : {X : Type 0} (test : X → X → Bool) (R : X → X → Type 0) (each : (x y : X) → Decides (test x y) (R x y)) (xs : List X) → Decides (list_all_pairs test xs) (AllPairs R xs)
 AllPairs-Decides test R each [] = (λ _ i j d before within. absurd (omega arith), λ _. refl)
 AllPairs-Decides test R each (x ∷ xs) = Decides-like (list_all (test x) xs && list_all_pairs test xs)
     (λ both. AllPairs-cons R x xs both.0 both.1)
@@ -121,6 +123,17 @@ is_sound-Decides t prefix =
     (λ (sound : IsSound t prefix). (sound.short, (sound.accepted, (sound.apart, (sound.compatible, (sound.combined, sound.cumulative))))))
     (Decides-and _ _ short (Decides-and _ _ accepted (Decides-and _ _ apart (Decides-and _ _ compatible limits))))
 
+IfSome-Decides : {X : Type 0} (p : X → Bool) (P : X → Type 0) (each : (x : X) → Decides (p x) (P x)) (o : Option X) → Decides (option_map_or p o true) (IfSome o P)
+IfSome-Decides p P each None = (λ _. tt, λ _. refl)
+IfSome-Decides p P each (Some x) = each x
+
+pub is_within_lateral-Decides : (hold : Layout) (difference : ℤ) → Decides (is_within_lateral hold difference) (IsWithinLateral hold difference)
+is_within_lateral-Decides hold difference = IfSome-Decides
+    (λ (l : Lateral). nat_le (unsigned_abs difference) l.most.0)
+    (λ (l : Lateral). unsigned_abs difference ≤ l.most.0)
+    (λ l. nat_le-Decides (unsigned_abs difference) l.most.0)
+    hold.lateral
+
 -- the test of admissibility is true exactly of the admissible paths
 pub is_admissible-Decides : (t : Problem) (path : List ℕ) → Decides (is_admissible t path) (IsAdmissible t path)
 unfolding is_admissible
@@ -128,10 +141,11 @@ is_admissible-Decides t path =
     let complete = Decides-eqb (length path) (length t.items) in
     let low = int_le-Decides t.low (hold_index t path) in
     let high = int_le-Decides (hold_index t path) t.high in
+    let lateral = is_within_lateral-Decides t.hold (lateral_difference t path) in
     Decides-like (is_admissible t path)
-    (λ all. record { sound = all.0; complete = all.1.0; low = all.1.1.0; high = all.1.1.1 })
-    (λ (admissible : IsAdmissible t path). (admissible.sound, (admissible.complete, (admissible.low, admissible.high))))
-    (Decides-and _ _ (is_sound-Decides t path) (Decides-and _ _ complete (Decides-and _ _ low high)))
+    (λ all. record { sound = all.0; complete = all.1.0; low = all.1.1.0; high = all.1.1.1.0; lateral = all.1.1.1.1 })
+    (λ (admissible : IsAdmissible t path). (admissible.sound, (admissible.complete, (admissible.low, (admissible.high, admissible.lateral)))))
+    (Decides-and _ _ (is_sound-Decides t path) (Decides-and _ _ complete (Decides-and _ _ low (Decides-and _ _ high lateral))))
 
 -- Every path is tried ---------------------------------------------------------------------------
 

@@ -1,7 +1,8 @@
 -- a hold and a task have no fault exactly where they keep the rules
-use Rattle.std.proofs.Common.{◌≡◌, ◌≢◌, ⊎_elim, ℕ, Bool, not, if◌then◌else◌, ◌<◌, ◌≤◌, ℤ, ◌≤ℤ◌, true, false, ◌==◌, ◌||◌, ◌&&◌, nat_lt, List, [], ◌∷◌, length, take, zip, get_or, map, Some, None, refl, sym, subst, arith, eqb, unsigned_abs, int_lt, bytes_eq}
+use Rattle.std.proofs.Common.{◌≡◌, ◌≢◌, ⊎_elim, ℕ, zero, suc, Bool, Option, not, if◌then◌else◌, ◌<◌, ◌≤◌, ℤ, ◌≤ℤ◌, true, false, ◌==◌, ◌||◌, ◌&&◌, nat_lt, List, [], ◌∷◌, length, take, zip, get_or, map, Some, None, refl, sym, subst, arith, eqb, unsigned_abs, int_lt, bytes_eq}
 use Rattle.std.proofs.lemmas.Bool.{false≢true, eqb-true, or_cases, ltb-true}
 use Rattle.std.proofs.lemmas.Bool.Decides.{Decides-eqb, Decides-and, Decides-or, Decides-ltb}
+use Rattle.std.proofs.Math.Nat.{eq-or-lt_of_le}
 use Rattle.std.proofs.lemmas.Int.{ints}
 use Rattle.std.proofs.lemmas.List.{get_or-take, length-take, length-map}
 use Rattle.std.proofs.lemmas.List.Elements.{All-weaker, All-head, All-tail, All-map, All-from_recursion, recursion_from_All}
@@ -10,7 +11,7 @@ use Rattle.std.proofs.lemmas.Map.Steps.{length-le_from_distinct_below}
 use Rattle.std.proofs.lemmas.Slice.Eq.{bytes_eq-Decides}
 use Rattle.std.proofs.lemmas.Option.{slice_get_cases, slice_get-get_or}
 use Rattle.std.specs.Bool.{Decides}
-use Rattle.std.specs.Prelude.{◌↔◌, All, AllPairs, slice_get, is_some}
+use Rattle.std.specs.Prelude.{◌↔◌, IfSome, All, AllPairs, slice_get, is_some}
 use Rattle.std.specs.List.{list_any, list_all, AllByRecursion, IsDistinct}
 use Rattle.desk_base.specs.Lists.{first_repeat}
 use Rattle.desk_base.proofs.PairLemmas.{each-weaker, pairs-all, AllPairs-head, AllPairs-tail}
@@ -22,9 +23,10 @@ use Rattle.hold_parts.specs.declared.parts.Cumulative.{Cumulative}
 use Rattle.hold_parts.specs.declared.lists.Fit.{Fit}
 use Rattle.hold_parts.specs.Repeats.{same_name, same_kind, same_id, same_position}
 use Rattle.hold_limits.specs.Layout.{Layout}
+use Rattle.hold_limits.specs.Lateral.{sides_of}
 use Rattle.hold_limits.specs.Problem.{Problem}
 use Rattle.hold_limits.specs.Bounds.{HasUpTo16Kinds, IsContainerMass, SamePair, KeepsHoldRules, KeepsTaskRules}
-use Rattle.hold_limits.specs.Faults.{IsLawful, IsLawfulHold, hold_fault, position_fault, limit_fault, item_fault, loose_fault, range_fault, task_fault, has_wrong_influence, has_wrong_fits, has_wrong_fit_mass, has_wrong_mass, is_unknown, same_pair, is_wrong_exclude, is_wrong_exclude_at, wrong_exclude, is_rising, is_wrong_combined, is_wrong_cumulative, is_too_heavy, is_bulk, is_loose_misplaced, is_loose_too_heavy}
+use Rattle.hold_limits.specs.Faults.{IsLawful, IsLawfulHold, hold_fault, position_fault, limit_fault, item_fault, loose_fault, range_fault, task_fault, has_wrong_influence, has_wrong_fits, has_wrong_fit_mass, has_wrong_mass, is_unknown, same_pair, is_wrong_exclude, is_wrong_exclude_at, wrong_exclude, places_rise, is_wrong_combined, is_wrong_cumulative, position_before, is_wrong_side, is_wrong_side_at, wrong_side, is_too_heavy, is_bulk, is_loose_misplaced, is_loose_too_heavy}
 use Rattle.hold_limits.proofs.FaultLemmas.{Refuses, Guards, refuses-like, refuses-over, refuses-zero, refuses-past, refuses-if, refuses-unless, refuses-either, refuses-any, refuses-some, guards-if, guards-map, guards-or, guards-position, guards-repeat, first_below-none_each, first_below-right}
 
 -- Loose loads -----------------------------------------------------------------------------------
@@ -132,7 +134,7 @@ PairRules positions pair =
     × ((is_bulk positions pair.0 ≡ false) × (is_bulk positions pair.1 ≡ false))))
 
 abbrev IsNew : ℕ × ℕ → ℕ × ℕ → Type 0
-IsNew earlier later = SamePair later earlier → ⊥
+IsNew earlier later = SamePair earlier later → ⊥
 
 pair-rule : (positions : List Position) (earlier : List (ℕ × ℕ)) (pair : ℕ × ℕ) → Refuses (is_wrong_exclude positions earlier pair) (PairRules positions pair × All (λ e. IsNew e pair) earlier)
 pair-rule positions earlier pair = refuses-either _ _
@@ -140,7 +142,7 @@ pair-rule positions earlier pair = refuses-either _ _
     (refuses-either _ _ (refuses-past (length positions) pair.0)
     (refuses-either _ _ (refuses-past (length positions) pair.1)
     (refuses-either _ _ (λ right. right, λ kept. kept) (λ right. right, λ kept. kept)))))
-    (refuses-any (same_pair pair) (λ e. IsNew e pair) (λ e. refuses-if (same_pair pair e) (same_pair-Decides pair e)) earlier)
+    (refuses-any (λ e. same_pair e pair) (λ e. IsNew e pair) (λ e. refuses-if (same_pair e pair) (same_pair-Decides e pair)) earlier)
 
 exclude-guards : (positions : List Position) (excludes : List (ℕ × ℕ)) → Guards (wrong_exclude positions excludes) (All (PairRules positions) excludes × AllPairs IsNew excludes)
 exclude-guards positions excludes = (λ none. (λ k d within. (each none k d within).0, apart none), λ kept. right excludes kept.0 kept.1)
@@ -185,15 +187,15 @@ above q (p ∷ places) rising =
     let first : q < p = ltb-true q p parts.0 in
     (first, each-weaker (IsBelow p) (IsBelow q) (λ x over. omega (arith, first, over)) places (above p places parts.1))
 
-rest-rising : (q : ℕ) (places : List ℕ) → list_all is_step (zip (q ∷ places) places) ≡ true → is_rising places ≡ true
+rest-rising : (q : ℕ) (places : List ℕ) → list_all is_step (zip (q ∷ places) places) ≡ true → places_rise places ≡ true
 rest-rising q [] rising = refl
 rest-rising q (p ∷ places) rising = (and-parts (nat_lt q p) (list_all is_step (zip (p ∷ places) places)) rising).1
 
-rising-pairs : (places : List ℕ) → is_rising places ≡ true → AllPairs IsBelow places
+rising-pairs : (places : List ℕ) → places_rise places ≡ true → AllPairs IsBelow places
 rising-pairs [] rising = λ i j d before within. absurd (omega arith)
 rising-pairs (q ∷ places) rising = AllPairs-cons IsBelow q places (All-from_recursion (IsBelow q) places (above q places rising)) (rising-pairs places (rest-rising q places rising))
 
-pairs-rising : (places : List ℕ) → AllPairs IsBelow places → is_rising places ≡ true
+pairs-rising : (places : List ℕ) → AllPairs IsBelow places → places_rise places ≡ true
 pairs-rising [] pairs = refl
 pairs-rising (q ∷ []) pairs = refl
 pairs-rising (q ∷ p ∷ places) pairs =
@@ -205,7 +207,7 @@ CombinedRules positions limit = (1 ≤ length limit.places) × (AllPairs IsBelow
 
 combined-rule : (positions : List Position) (limit : Combined) → Refuses (is_wrong_combined positions limit) (CombinedRules positions limit)
 combined-rule positions limit = refuses-either _ _ (refuses-zero (length limit.places))
-    (refuses-either _ _ (refuses-unless (is_rising limit.places) (rising-pairs limit.places, pairs-rising limit.places))
+    (refuses-either _ _ (refuses-unless (places_rise limit.places) (rising-pairs limit.places, pairs-rising limit.places))
     (refuses-any (is_unknown positions) (λ q. q < length positions) (refuses-past (length positions)) limit.places))
 
 abbrev LimitRules : Layout → Type 0
@@ -222,14 +224,70 @@ limit_fault-guards h =
     (guards-or _ _ (guards-map _ _ (guards-position (is_wrong_combined h.positions) (CombinedRules h.positions) (combined-rule h.positions) h.combined))
     (guards-map _ _ (guards-position (is_wrong_cumulative h.positions) (λ (limit : Cumulative). limit.place < length h.positions) (λ limit. refuses-past (length h.positions) limit.place) h.cumulative))))
 
+-- Rules of sides -------------------------------------------------------------------------------
+
+-- the position comes after the one before it, if there is one
+abbrev IsAfter : Option ℕ → ℕ → Type 0
+IsAfter before q = IfSome before (λ p. p < q)
+
+abbrev IsKnown : List Position → ℕ × Bool → Type 0
+IsKnown positions side = side.0 < length positions
+
+abbrev Rises : ℕ × Bool → ℕ × Bool → Type 0
+Rises a b = a.0 < b.0
+
+side-rule : (positions : List Position) (before : Option ℕ) (side : ℕ × Bool) → Refuses (is_wrong_side positions before side) (IsKnown positions side × IsAfter before side.0)
+side-rule positions None side = refuses-either _ _ (refuses-past (length positions) side.0) (λ right. tt, λ kept. refl)
+side-rule positions (Some p) side = refuses-either _ _ (refuses-past (length positions) side.0) (refuses-past side.0 p)
+
+-- sides of which each is after the one before it rise
+steps-rise : (sides : List (ℕ × Bool)) → ((k : ℕ) (d : ℕ × Bool) → suc k < length sides → Rises (get_or sides k d) (get_or sides (suc k) d)) → AllPairs Rises sides
+steps-rise sides steps i zero d before within = absurd (omega arith)
+steps-rise sides steps i (suc j) d before within = ⊎_elim
+    (λ (same : i ≡ j). rw same (steps j d within))
+    (λ (lower : i < j). omega (arith, steps-rise sides steps i j d lower (omega arith), steps j d within))
+    (eq-or-lt_of_le (omega arith))
+
+side-guards : (positions : List Position) (sides : List (ℕ × Bool)) → Guards (wrong_side positions sides) (All (IsKnown positions) sides × AllPairs Rises sides)
+side-guards positions sides = (λ none. (λ k d within. (each none k d within).0, steps-rise sides (step none)), λ kept. right sides kept.0 kept.1)
+  where
+    each : wrong_side positions sides ≡ None → (k : ℕ) (d : ℕ × Bool) → k < length sides → IsKnown positions (get_or sides k d) × IsAfter (position_before sides k) (get_or sides k d).0
+    each none k d within =
+        let there : slice_get sides k ≡ Some (get_or sides k d) = slice_get-get_or sides k d within in
+        let passes : is_wrong_side positions (position_before sides k) (get_or sides k d) ≡ false = rw there at (first_below-none_each (is_wrong_side_at positions sides) (length sides) none k within) in
+        (side-rule positions (position_before sides k) (get_or sides k d)).0 passes
+
+    step : wrong_side positions sides ≡ None → (k : ℕ) (d : ℕ × Bool) → suc k < length sides → Rises (get_or sides k d) (get_or sides (suc k) d)
+    step none k d within =
+        let there : slice_get sides k ≡ Some (get_or sides k d) = slice_get-get_or sides k d (omega arith) in
+        rw there at (each none (suc k) d within).1
+
+    after : (sides : List (ℕ × Bool)) → AllPairs Rises sides → (k : ℕ) (d : ℕ × Bool) → k < length sides → IsAfter (position_before sides k) (get_or sides k d).0
+    after sides rise zero d within = tt
+    after sides rise (suc k) d within =
+        let there : slice_get sides k ≡ Some (get_or sides k d) = slice_get-get_or sides k d (omega arith) in
+        rw there (rise k (suc k) d (omega arith) within)
+
+    right : (sides : List (ℕ × Bool)) → All (IsKnown positions) sides → AllPairs Rises sides → wrong_side positions sides ≡ None
+    right [] known rise = refl
+    right (side ∷ rest) known rise =
+        let all : List (ℕ × Bool) = side ∷ rest in
+        first_below-right (is_wrong_side_at positions all) (length all) (λ k less.
+        let last : ℕ × Bool = get_or all k side in
+        let there : slice_get all k ≡ Some last = slice_get-get_or all k side less in
+        rw there ((side-rule positions (position_before all k) last).1 (known k side less, after all rise k side less)))
+
+abbrev SideRules : Layout → Type 0
+SideRules h = All (IsKnown h.positions) (sides_of h) × AllPairs Rises (sides_of h)
+
 -- Rules of a task -------------------------------------------------------------------------------
 
 abbrev ItemRules : List Item → Type 0
-ItemRules items = (length items ≤ 48) × (AllPairs (λ (a b : Item). a.id ≢ b.id) items × All (λ (item : Item). item.mass.0 ≤ 20000) items)
+ItemRules items = (length items ≤ 60) × (AllPairs (λ (a b : Item). a.id ≢ b.id) items × All (λ (item : Item). item.mass.0 ≤ 20000) items)
 
 item_fault-guards : (items : List Item) → Guards (item_fault items) (ItemRules items)
 item_fault-guards items =
-    guards-or _ _ (guards-if _ _ (refuses-over 48 (length items)))
+    guards-or _ _ (guards-if _ _ (refuses-over 60 (length items)))
     (guards-or _ _ (guards-map _ _ (guards-repeat same_id (λ (a b : Item). a.id ≢ b.id) (λ a b. bytes-differ a.id b.id) items))
     (guards-map _ _ (guards-position is_too_heavy (λ (item : Item). item.mass.0 ≤ 20000) (λ item. refuses-over 20000 item.mass.0) items)))
 
@@ -266,17 +324,19 @@ range_fault-guards base low high ideal_low ideal_high =
 
 -- All rules -------------------------------------------------------------------------------------
 
-hold_fault-guards : (h : Layout) → Guards (hold_fault h) (PositionRules h.positions × LimitRules h)
-hold_fault-guards h = guards-or _ _ (position_fault-guards h.positions) (limit_fault-guards h)
+hold_fault-guards : (h : Layout) → Guards (hold_fault h) (PositionRules h.positions × (LimitRules h × SideRules h))
+hold_fault-guards h = guards-or _ _ (position_fault-guards h.positions)
+    (guards-or _ _ (limit_fault-guards h) (guards-map _ _ (side-guards h.positions (sides_of h))))
 
 -- a hold has no fault exactly where it keeps the rules of a hold
 pub hold-rules : (h : Layout) → (hold_fault h ≡ None) ↔ KeepsHoldRules h
 hold-rules h = (λ none. kept ((hold_fault-guards h).0 none), λ rules. (hold_fault-guards h).1 (rules-of rules))
   where
-    kept : PositionRules h.positions × LimitRules h → KeepsHoldRules h
+    kept : PositionRules h.positions × (LimitRules h × SideRules h) → KeepsHoldRules h
     kept rules =
         let positions : PositionRules h.positions = rules.0 in
-        let limits : LimitRules h = rules.1 in
+        let limits : LimitRules h = rules.1.0 in
+        let sides : SideRules h = rules.1.1 in
         record {
           some_position = positions.0.0;
           positions = positions.0.1;
@@ -295,9 +355,11 @@ hold-rules h = (λ none. kept ((hold_fault-guards h).0 none), λ rules. (hold_fa
           combined = λ k d within. let limit = limits.1.1.0 k d within in (limit.0, limit.1.1);
           combined_rising = λ k d within. (limits.1.1.0 k d within).1.0;
           cumulative = limits.1.1.1;
+          sides = sides.0;
+          sides_rising = sides.1;
         }
 
-    rules-of : KeepsHoldRules h → PositionRules h.positions × LimitRules h
+    rules-of : KeepsHoldRules h → PositionRules h.positions × (LimitRules h × SideRules h)
     rules-of kept =
         let positions : PositionRules h.positions =
         ((kept.some_position, kept.positions), (kept.names, (kept.influences, (λ k d within. (kept.kinds k d within, kept.different_kinds k d within), kept.masses)))) in
@@ -308,7 +370,7 @@ hold-rules h = (λ none. kept ((hold_fault-guards h).0 none), λ rules. (hold_fa
         let limit = kept.combined k d within in
         (limit.0, (kept.combined_rising k d within, limit.1)) in
         let limits : LimitRules h = ((kept.few_excludes, (kept.few_combined, kept.few_cumulative)), ((pairs, kept.excludes_once), (combined, kept.cumulative))) in
-        (positions, limits)
+        (positions, (limits, (kept.sides, kept.sides_rising)))
 
 -- a lawful hold keeps the rules of a hold
 pub hold-bounds : (h : Layout) → IsLawfulHold h → KeepsHoldRules h

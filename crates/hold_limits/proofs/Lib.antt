@@ -8,3 +8,6 @@ pub mod FaultLemmas
 pub mod LawfulBounds
 pub mod MomentLemmas
 pub mod DistanceLemmas
+pub mod TwinLemmas
+pub mod SidesLemmas
+pub mod ExchangeLemmas

@@ -1,16 +1,20 @@
 -- sums of moments, one load more at a time, and how large they can be
-use Rattle.std.proofs.Common.{◌≡◌, ⊎_elim, ℕ, ◌+◌, ◌*◌, ◌<◌, ◌≤◌, ℤ, pos, ◌+ℤ◌, ◌*ℤ◌, List, [], ◌∷◌, ◌++◌, length, take, get_or, Some, ap, sym, ◌∙◌, subst, arith, unsigned_abs, length-take}
+use Rattle.std.proofs.Common.{◌≡◌, ⊎_elim, Bool, true, false, if◌then◌else◌, negsuc, ℕ, ◌+◌, ◌*◌, ◌<◌, ◌≤◌, ℤ, pos, ◌+ℤ◌, ◌*ℤ◌, List, [], ◌∷◌, length, take, get_or, Some, ap, sym, ◌∙◌, subst, arith, unsigned_abs, length-take}
 use Rattle.std.proofs.lemmas.Int.{ints, unsigned_abs-mul}
 use Rattle.std.proofs.lemmas.List.{take_all}
 use Rattle.std.proofs.lemmas.List.Elements.{All-head, All-tail, All-take, All-map}
 use Rattle.std.proofs.lemmas.Option.{slice_get_cases, slice_get_within, get_or_from_slice_get}
 use Rattle.std.proofs.lemmas.Slice.Zip.{get_or-zip, length-zip}
-use Rattle.std.proofs.Math.Nat.{suc-mul, mul-le-mul}
+use Rattle.std.proofs.Math.Nat.{suc-mul, mul_assoc, mul-le-mul, le_refl}
 use Rattle.std.specs.Prelude.{All, slice_get}
 use Rattle.desk_base.specs.Lists.{int_sum_by}
 use Rattle.hold_parts.specs.declared.parts.Item.{Item}
 use Rattle.hold_parts.specs.declared.parts.Loose.{Loose}
+use Rattle.hold_limits.specs.declared.moments.Arm.{Arm}
+use Rattle.hold_limits.specs.declared.moments.Arm.TheVariants.{Influence, Side}
 use Rattle.hold_limits.specs.Layout.{Layout}
+use Rattle.hold_limits.specs.Lateral.{is_right, is_left, side_at}
+use Rattle.hold_limits.specs.Arms.{arm_at, longest, placed_by, loose_by}
 use Rattle.hold_limits.specs.Problem.{Problem}
 use Rattle.hold_limits.specs.Faults.{IsLawful}
 use Rattle.hold_limits.specs.BranchOrder.{Offered, branch_order, ordered}
@@ -43,30 +47,52 @@ influence_at-bound t bounds q = ⊎_elim
     (λ past. rw past.1 (omega arith))
     (slice_get_cases t.hold.positions q).1
 
-moment-bound : (mass : ℕ) (influence : ℤ) → mass ≤ 20000 → unsigned_abs influence ≤ 100000 → unsigned_abs (pos mass *ℤ influence) ≤ 2000000000
-moment-bound mass influence light near =
-    let product : mass * unsigned_abs influence ≤ 20000 * 100000 = mul-le-mul light near in
-    omega (arith, unsigned_abs-mul (pos mass) influence, product)
+-- no side is farther out than 1
+side_at-bound : (hold : Layout) (q : ℕ) → unsigned_abs (side_at hold q) ≤ 1
+side_at-bound hold q = by_side (is_right hold q) (is_left hold q)
+  where
+    by_side : (right left : Bool) → unsigned_abs (if right then pos 1 else if left then negsuc 0 else pos 0) ≤ 1
+    by_side true left = omega arith
+    by_side false true = omega arith
+    by_side false false = omega arith
 
-loose-each : (t : Problem) → KeepsTaskRules t → All (λ (load : Loose). unsigned_abs (loose_moment t.hold load) ≤ 2000000000) t.loose
-loose-each t bounds k d within = moment-bound _ _ (bounds.loose_masses k d within) (influence_at-bound t bounds _)
+arm-bound : (arm : Arm) (t : Problem) → KeepsTaskRules t → (q : ℕ) → unsigned_abs (arm_at arm t.hold q) ≤ longest arm
+arm-bound Influence t bounds q = influence_at-bound t bounds q
+arm-bound Side t bounds q = side_at-bound t.hold q
 
--- the first loose loads have at most 64 times 20,000 kg at 100,000 ticks
-pub loose-bound : (t : Problem) → IsLawful t → (n : ℕ) → unsigned_abs (int_sum_by (loose_moment t.hold) (take n t.loose)) ≤ 128000000000
-loose-bound t lawful n =
+moment-bound : (mass : ℕ) (arm : ℤ) (longest : ℕ) → mass ≤ 20000 → unsigned_abs arm ≤ longest → unsigned_abs (pos mass *ℤ arm) ≤ 20000 * longest
+moment-bound mass arm longest light near =
+    let product : mass * unsigned_abs arm ≤ 20000 * longest = mul-le-mul light near in
+    omega (arith, unsigned_abs-mul (pos mass) arm, product)
+
+-- so many moments, of at most 20,000 kg each
+all-moments : (n most m : ℕ) → n ≤ most → n * (20000 * m) ≤ most * 20000 * m
+all-moments n most m few = rw (mul_assoc most 20000 m) (mul-le-mul few (le_refl (20000 * m)))
+
+pub longest-most : (arm : Arm) → longest arm ≤ 100000
+longest-most Influence = omega arith
+longest-most Side = omega arith
+
+loose_by-each : (arm : Arm) (t : Problem) → KeepsTaskRules t → All (λ (load : Loose). unsigned_abs (loose_by (arm_at arm t.hold) load) ≤ 20000 * longest arm) t.loose
+loose_by-each arm t bounds k d within = moment-bound _ _ (longest arm) (bounds.loose_masses k d within) (arm-bound arm t bounds _)
+
+-- the first loose loads have at most 64 times 20,000 kg at the longest arm
+pub loose_by-bound : (arm : Arm) (t : Problem) → IsLawful t → (n : ℕ) → unsigned_abs (int_sum_by (loose_by (arm_at arm t.hold)) (take n t.loose)) ≤ 1280000 * longest arm
+loose_by-bound arm t lawful n =
     let bounds = lawful-bounds t lawful in
-    let each = All-take (λ (load : Loose). unsigned_abs (loose_moment t.hold load) ≤ 2000000000) n t.loose (loose-each t bounds) in
-    let most = int_sum_by-bound (loose_moment t.hold) 2000000000 (take n t.loose) each in
-    omega (arith, most, length-take n t.loose, bounds.loose)
+    let each = All-take (λ (load : Loose). unsigned_abs (loose_by (arm_at arm t.hold) load) ≤ 20000 * longest arm) n t.loose (loose_by-each arm t bounds) in
+    let most = int_sum_by-bound (loose_by (arm_at arm t.hold)) (20000 * longest arm) (take n t.loose) each in
+    omega (arith, most, all-moments (length (take n t.loose)) 64 (longest arm) (omega (arith, length-take n t.loose, bounds.loose)))
 
 -- the moments of one loose load more, as a loop reads it
-pub loose-more : (t : Problem) (loose : List Loose) (hold : Layout) (i : ℕ) (d : Loose) (moment : ℤ) → loose ≡ t.loose → hold ≡ t.hold → i < length loose
-    → moment ≡ loose_moment hold (get_or loose i d)
-    → int_sum_by (loose_moment t.hold) (take (i + 1) t.loose) ≡ int_sum_by (loose_moment t.hold) (take i t.loose) +ℤ moment
-loose-more t loose hold i d moment same_loose same_hold within is =
+pub loose-more : (arm : Arm) (t : Problem) (loose : List Loose) (hold : Layout) (i : ℕ) (d : Loose) (moment : ℤ) → loose ≡ t.loose → hold ≡ t.hold → i < length loose
+    → moment ≡ loose_by (arm_at arm hold) (get_or loose i d)
+    → int_sum_by (loose_by (arm_at arm t.hold)) (take (i + 1) t.loose) ≡ int_sum_by (loose_by (arm_at arm t.hold)) (take i t.loose) +ℤ moment
+loose-more arm t loose hold i d moment same_loose same_hold within is =
+    let f : Loose → ℤ = loose_by (arm_at arm t.hold) in
     let inside : i < length t.loose = omega (arith, ap length same_loose) in
-    let here : moment ≡ loose_moment t.hold (get_or t.loose i d) = is ∙ ap (λ h. loose_moment h (get_or loose i d)) same_hold ∙ ap (λ ls. loose_moment t.hold (get_or ls i d)) same_loose in
-    int_sum_by-more (loose_moment t.hold) t.loose i d inside ∙ ap (λ m. int_sum_by (loose_moment t.hold) (take i t.loose) +ℤ m) (sym here)
+    let here : moment ≡ f (get_or t.loose i d) = is ∙ ap (λ h. loose_by (arm_at arm h) (get_or loose i d)) same_hold ∙ ap (λ ls. f (get_or ls i d)) same_loose in
+    int_sum_by-more f t.loose i d inside ∙ ap (λ m. int_sum_by f (take i t.loose) +ℤ m) (sym here)
 
 ordered-masses : (t : Problem) → KeepsTaskRules t → All (λ (item : Item). item.mass.0 ≤ 20000) (ordered t.items)
 ordered-masses t bounds = All-map (λ (item : Item). item.mass.0 ≤ 20000) (λ (e : Offered). e.1) (branch_order t.items)
@@ -75,33 +101,43 @@ ordered-masses t bounds = All-map (λ (item : Item). item.mass.0 ≤ 20000) (λ 
     let there = entries-offered t.items k d within in
     rw (get_or_from_slice_get t.items e.0 e.1 e.1 there) at (bounds.item_masses e.0 e.1 (slice_get_within t.items e.0 e.1 there)))
 
-placed-each : (t : Problem) → KeepsTaskRules t → (prefix : List ℕ) → All (λ (p : Placed). unsigned_abs (placed_moment t.hold p) ≤ 2000000000) (placed t prefix)
-placed-each t bounds prefix k d within =
+placed_by-each : (arm : Arm) (t : Problem) → KeepsTaskRules t → (prefix : List ℕ) → All (λ (p : Placed). unsigned_abs (placed_by (arm_at arm t.hold) p) ≤ 20000 * longest arm) (placed t prefix)
+placed_by-each arm t bounds prefix k d within =
     let counted = length-zip (ordered t.items) prefix in
     let in_order : k < length (ordered t.items) = omega arith in
     let in_prefix : k < length prefix = omega arith in
-    let P : Placed → Type 0 = λ p. unsigned_abs (placed_moment t.hold p) ≤ 2000000000 in
+    let P : Placed → Type 0 = λ p. unsigned_abs (placed_by (arm_at arm t.hold) p) ≤ 20000 * longest arm in
     subst P (sym (get_or-zip (ordered t.items) prefix k d in_order in_prefix))
-    (moment-bound _ _ (ordered-masses t bounds k d.0 in_order) (influence_at-bound t bounds (get_or prefix k d.1)))
+    (moment-bound _ _ (longest arm) (ordered-masses t bounds k d.0 in_order) (arm-bound arm t bounds (get_or prefix k d.1)))
 
--- the first placed containers have at most 48 times 20,000 kg at 100,000 ticks
-pub placed-bound : (t : Problem) → IsLawful t → (prefix : List ℕ) (n : ℕ) → length prefix ≤ length t.items
-    → unsigned_abs (int_sum_by (placed_moment t.hold) (take n (placed t prefix))) ≤ 96000000000
-placed-bound t lawful prefix n short =
+-- the first placed containers have at most 60 times 20,000 kg at the longest arm
+pub placed_by-bound : (arm : Arm) (t : Problem) → IsLawful t → (prefix : List ℕ) (n : ℕ) → length prefix ≤ length t.items
+    → unsigned_abs (int_sum_by (placed_by (arm_at arm t.hold)) (take n (placed t prefix))) ≤ 1200000 * longest arm
+placed_by-bound arm t lawful prefix n short =
     let bounds = lawful-bounds t lawful in
-    let each = All-take (λ (p : Placed). unsigned_abs (placed_moment t.hold p) ≤ 2000000000) n (placed t prefix) (placed-each t bounds prefix) in
-    let most = int_sum_by-bound (placed_moment t.hold) 2000000000 (take n (placed t prefix)) each in
-    omega (arith, most, length-take n (placed t prefix), length-placed t prefix short, bounds.items)
+    let each = All-take (λ (p : Placed). unsigned_abs (placed_by (arm_at arm t.hold) p) ≤ 20000 * longest arm) n (placed t prefix) (placed_by-each arm t bounds prefix) in
+    let most = int_sum_by-bound (placed_by (arm_at arm t.hold)) (20000 * longest arm) (take n (placed t prefix)) each in
+    let few : length (take n (placed t prefix)) ≤ 60 = omega (arith, length-take n (placed t prefix), length-placed t prefix short, bounds.items) in
+    omega (arith, most, all-moments (length (take n (placed t prefix))) 60 (longest arm) few)
 
 -- the moments of one container more, as a loop reads it
-pub placed-more : (t : Problem) (prefix : List ℕ) (hold : Layout) (rank q : ℕ) (item : Item) (moment : ℤ) → length prefix ≤ length t.items → hold ≡ t.hold → rank < length prefix
-    → slice_get (ordered t.items) rank ≡ Some item → get_or prefix rank 0 ≡ q → moment ≡ placed_moment hold (item, q)
-    → int_sum_by (placed_moment t.hold) (take (rank + 1) (placed t prefix)) ≡ int_sum_by (placed_moment t.hold) (take rank (placed t prefix)) +ℤ moment
-placed-more t prefix hold rank q item moment short same_hold within there number is =
-    let here : moment ≡ placed_moment t.hold (item, q) = is ∙ ap (λ h. placed_moment h (item, q)) same_hold in
-    ap (int_sum_by (placed_moment t.hold)) (take-placed_more t prefix rank q item short within there number)
-    ∙ int_sum_by-push (placed_moment t.hold) (take rank (placed t prefix)) (item, q)
-    ∙ ap (λ m. int_sum_by (placed_moment t.hold) (take rank (placed t prefix)) +ℤ m) (sym here)
+pub placed-more : (arm : Arm) (t : Problem) (prefix : List ℕ) (hold : Layout) (rank q : ℕ) (item : Item) (moment : ℤ) → length prefix ≤ length t.items → hold ≡ t.hold → rank < length prefix
+    → slice_get (ordered t.items) rank ≡ Some item → get_or prefix rank 0 ≡ q → moment ≡ placed_by (arm_at arm hold) (item, q)
+    → int_sum_by (placed_by (arm_at arm t.hold)) (take (rank + 1) (placed t prefix)) ≡ int_sum_by (placed_by (arm_at arm t.hold)) (take rank (placed t prefix)) +ℤ moment
+placed-more arm t prefix hold rank q item moment short same_hold within there number is =
+    let f : Placed → ℤ = placed_by (arm_at arm t.hold) in
+    let here : moment ≡ f (item, q) = is ∙ ap (λ h. placed_by (arm_at arm h) (item, q)) same_hold in
+    ap (int_sum_by f) (take-placed_more t prefix rank q item short within there number)
+    ∙ int_sum_by-push f (take rank (placed t prefix)) (item, q)
+    ∙ ap (λ m. int_sum_by f (take rank (placed t prefix)) +ℤ m) (sym here)
+
+-- by influence
+pub loose-bound : (t : Problem) → IsLawful t → (n : ℕ) → unsigned_abs (int_sum_by (loose_moment t.hold) (take n t.loose)) ≤ 128000000000
+loose-bound t lawful n = loose_by-bound Influence t lawful n
+
+pub placed-bound : (t : Problem) → IsLawful t → (prefix : List ℕ) (n : ℕ) → length prefix ≤ length t.items
+    → unsigned_abs (int_sum_by (placed_moment t.hold) (take n (placed t prefix))) ≤ 120000000000
+placed-bound t lawful prefix n short = placed_by-bound Influence t lawful prefix n short
 
 -- all of the placed containers
 pub placed-all : (t : Problem) (prefix : List ℕ) (n : ℕ) → length prefix ≤ length t.items → length prefix ≤ n → take n (placed t prefix) ≡ placed t prefix

@@ -1,5 +1,5 @@
 -- the containers of a prefix with their positions, one after another
-use Rattle.std.proofs.Common.{◌≡◌, ℕ, ◌+◌, ◌<◌, ◌≤◌, List, [], ◌∷◌, ◌++◌, length, get_or, take, Some, refl, ap, ap₂, ◌∙◌, arith}
+use Rattle.std.proofs.Common.{◌≡◌, ℕ, zero, suc, zip, ◌+◌, ◌<◌, ◌≤◌, List, [], ◌∷◌, ◌++◌, length, get_or, take, Some, refl, ap, ap₂, ◌∙◌, arith}
 use Rattle.std.proofs.lemmas.Slice.Zip.{get_or-zip, length-zip}
 use Rattle.std.proofs.lemmas.Option.{get_or_from_slice_get, slice_get-get_or, slice_get_within}
 use Rattle.std.proofs.lemmas.List.{take_more, get_or_default}
@@ -14,6 +14,17 @@ use Rattle.hold_limits.proofs.BranchOrderLemmas.{length-ordered}
 
 pub length-placed : (t : Problem) (prefix : List ℕ) → length prefix ≤ length t.items → length (placed t prefix) ≡ length prefix
 length-placed t prefix short = length-zip (ordered t.items) prefix ∙ omega (arith, length-ordered t.items)
+
+zip-take : {X Y : Type 0} (xs : List X) (n : ℕ) (ys : List Y) → zip xs (take n ys) ≡ take n (zip xs ys)
+zip-take [] zero ys = refl
+zip-take [] (suc n) ys = refl
+zip-take (x ∷ xs) zero ys = refl
+zip-take (x ∷ xs) (suc n) [] = refl
+zip-take (x ∷ xs) (suc n) (y ∷ ys) = ap (λ zs. (x, y) ∷ zs) (zip-take xs n ys)
+
+-- the first placed containers are those of the first numbers
+pub placed-take : (t : Problem) (n : ℕ) (prefix : List ℕ) → placed t (take n prefix) ≡ take n (placed t prefix)
+placed-take t n prefix = zip-take (ordered t.items) n prefix
 
 -- the container at a rank with the number at that rank
 pub get_or-placed : (t : Problem) (prefix : List ℕ) (rank q : ℕ) (item : Item) (d : Placed) → length prefix ≤ length t.items → rank < length prefix

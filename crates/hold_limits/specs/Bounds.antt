@@ -7,6 +7,7 @@ use Rattle.hold_parts.specs.declared.parts.Cumulative.{Cumulative}
 use Rattle.hold_parts.specs.declared.parts.Item.{Item}
 use Rattle.hold_parts.specs.declared.parts.Loose.{Loose}
 use Rattle.hold_limits.specs.Layout.{Layout}
+use Rattle.hold_limits.specs.Lateral.{sides_of}
 use Rattle.hold_limits.specs.Problem.{Problem}
 use Rattle.hold_limits.specs.Faults.{is_bulk}
 
@@ -42,11 +43,14 @@ pub record KeepsHoldRules (h : Layout) : Type 0 where
   pub excludes : All (λ (pair : ℕ × ℕ). (pair.0 < length h.positions) × (pair.1 < length h.positions)) h.excludes
   pub excludes_two : All (λ (pair : ℕ × ℕ). pair.0 ≢ pair.1) h.excludes
   pub excludes_no_bulk : All (λ (pair : ℕ × ℕ). (is_bulk h.positions pair.0 ≡ false) × (is_bulk h.positions pair.1 ≡ false)) h.excludes
-  pub excludes_once : AllPairs (λ (earlier later : ℕ × ℕ). SamePair later earlier → ⊥) h.excludes
+  pub excludes_once : AllPairs (λ (earlier later : ℕ × ℕ). SamePair earlier later → ⊥) h.excludes
   -- a combined limit is of at least one position of the hold, in strictly rising order, and a cumulative one of a position of the hold
   pub combined : All (λ (limit : Combined). (1 ≤ length limit.places) × All (λ q. q < length h.positions) limit.places) h.combined
   pub combined_rising : All (λ (limit : Combined). AllPairs (λ a b. a < b) limit.places) h.combined
   pub cumulative : All (λ (limit : Cumulative). limit.place < length h.positions) h.cumulative
+  -- the sides are of positions of the hold, in strictly rising order
+  pub sides : All (λ (side : ℕ × Bool). side.0 < length h.positions) (sides_of h)
+  pub sides_rising : AllPairs (λ (a b : ℕ × Bool). a.0 < b.0) (sides_of h)
 
 -- of a task over a lawful hold
 pub record KeepsTaskRules (t : Problem) : Type 0 where
@@ -54,8 +58,8 @@ pub record KeepsTaskRules (t : Problem) : Type 0 where
   pub some_position : 0 < length t.hold.positions
   pub positions : length t.hold.positions ≤ 64
   pub influences : All (λ (position : Position). unsigned_abs position.influence ≤ 100000) t.hold.positions
-  -- the offer has at most 48 containers with different identities, of at most 20,000 kg
-  pub items : length t.items ≤ 48
+  -- the offer has at most 60 containers with different identities, of at most 20,000 kg
+  pub items : length t.items ≤ 60
   pub identities : AllPairs (λ (a b : Item). a.id ≢ b.id) t.items
   pub item_masses : All (λ (item : Item). item.mass.0 ≤ 20000) t.items
   -- the loose loads are at most 64, of at most 20,000 kg, each on a bulk position of the hold and alone on it

@@ -1,13 +1,14 @@
 -- the plain way to the best path, beside the definitions: try every path there is, and keep the one with the least key
-use Rattle.std.specs.Prelude.{ℕ, zero, suc, int_le, Bool, true, false, not, ◌&&◌, ◌||◌, ◌==◌, nat_le, if◌then◌else◌, List, [], ◌∷◌, length, map, flat_map, Option, Some, None, slice_get}
+use Rattle.std.specs.Prelude.{ℕ, zero, suc, ℤ, unsigned_abs, int_le, Bool, true, false, not, ◌&&◌, ◌||◌, ◌==◌, nat_le, if◌then◌else◌, List, [], ◌∷◌, length, map, flat_map, Option, Some, None, slice_get}
 use Rattle.std.specs.List.{list_all, list_any, range_with_len}
 use Rattle.std.specs.Option.{option_map_or}
 use Rattle.std.specs.Ordering.{is_gt}
 use Rattle.hold_parts.specs.declared.parts.Combined.{Combined}
 use Rattle.hold_parts.specs.declared.parts.Cumulative.{Cumulative}
+use Rattle.hold_parts.specs.declared.parts.Lateral.{Lateral}
 use Rattle.hold_limits.specs.Layout.{Layout}
 use Rattle.hold_limits.specs.Problem.{Problem}
-use Rattle.hold_limits.specs.Placement.{Placed, placed, load_of, hold_index, key, key_cmp}
+use Rattle.hold_limits.specs.Placement.{Placed, placed, load_of, hold_index, lateral_difference, key, key_cmp}
 use Rattle.hold_parts.specs.Limits.{is_listed, is_counted}
 use Rattle.hold_parts.specs.Accepting.{accepts}
 
@@ -39,13 +40,18 @@ is_sound t prefix =
     && (list_all_pairs (λ a b. not (exclude t.hold a b)) prefix
     && keeps_limits t prefix)))
 
+-- whether the difference is within the lateral limit of the hold, if it has one
+abbrev pub is_within_lateral : Layout → ℤ → Bool
+is_within_lateral hold difference = option_map_or (λ (l : Lateral). nat_le (unsigned_abs difference) l.most.0) hold.lateral true
+
 -- whether the path is admissible
 unfoldable pub is_admissible : Problem → List ℕ → Bool
 is_admissible t path =
     is_sound t path
     && ((length path == length t.items)
     && (int_le t.low (hold_index t path)
-    && int_le (hold_index t path) t.high))
+    && (int_le (hold_index t path) t.high
+    && is_within_lateral t.hold (lateral_difference t path))))
 
 -- every list of n numbers below m
 unfoldable pub all_paths : ℕ → ℕ → List (List ℕ)

@@ -1,5 +1,5 @@
 -- what is wrong with a hold or with a task: the first kind of fault that there is, at its first place in its list
-use Rattle.std.specs.Prelude.{◌≡◌, ℕ, ◌≤◌, ℤ, unsigned_abs, int_lt, Bool, false, not, ◌&&◌, ◌||◌, ◌==◌, nat_lt, nat_le, if◌then◌else◌, List, length, take, drop, zip, All, position, Option, Some, None, is_some, option_map, slice_get}
+use Rattle.std.specs.Prelude.{◌≡◌, ℕ, zero, suc, ◌≤◌, ℤ, unsigned_abs, int_lt, Bool, false, not, ◌&&◌, ◌||◌, ◌==◌, nat_lt, nat_le, if◌then◌else◌, List, length, take, drop, zip, All, position, Option, Some, None, is_some, option_map, slice_get, IfSome}
 use Rattle.std.specs.List.{list_any, list_all}
 use Rattle.std.specs.Option.{option_or, option_map_or}
 use Rattle.desk_base.specs.Lists.{first_below, first_repeat}
@@ -8,6 +8,7 @@ use Rattle.hold_parts.specs.declared.lists.Fit.{Fit}
 use Rattle.hold_parts.specs.declared.parts.Position.{Position}
 use Rattle.hold_parts.specs.declared.parts.Combined.{Combined}
 use Rattle.hold_parts.specs.declared.parts.Cumulative.{Cumulative}
+use Rattle.hold_parts.specs.declared.parts.Lateral.{Lateral}
 use Rattle.hold_parts.specs.declared.parts.Item.{Item}
 use Rattle.hold_parts.specs.declared.parts.Loose.{Loose}
 use Rattle.hold_limits.specs.declared.fault.HoldFault.{HoldFault}
@@ -17,6 +18,7 @@ use Rattle.hold_limits.specs.declared.fault.TaskFault.TheVariants as task
 use Rattle.hold_parts.specs.Spellings.{IsKind}
 use Rattle.hold_parts.specs.Repeats.{same_name, same_kind, same_id, same_position}
 use Rattle.hold_limits.specs.Layout.{Layout}
+use Rattle.hold_limits.specs.Lateral.{sides_of}
 use Rattle.hold_limits.specs.Problem.{Problem}
 
 -- the fault, where there is one
@@ -64,7 +66,7 @@ same_pair a b = ((a.0 == b.0) && (a.1 == b.1)) || ((a.0 == b.1) && (a.1 == b.0))
 
 -- the excluding pair has wrong positions, or is one of the earlier pairs
 abbrev pub is_wrong_exclude : List Position → List (ℕ × ℕ) → (ℕ × ℕ) → Bool
-is_wrong_exclude positions earlier pair = has_wrong_positions positions pair || list_any (same_pair pair) earlier
+is_wrong_exclude positions earlier pair = has_wrong_positions positions pair || list_any (λ other. same_pair other pair) earlier
 
 abbrev pub is_wrong_exclude_at : List Position → List (ℕ × ℕ) → ℕ → Bool
 is_wrong_exclude_at positions excludes at = option_map_or (is_wrong_exclude positions (take at excludes)) (slice_get excludes at) false
@@ -74,15 +76,31 @@ abbrev pub wrong_exclude : List Position → List (ℕ × ℕ) → Option ℕ
 wrong_exclude positions excludes = first_below (is_wrong_exclude_at positions excludes) (length excludes)
 
 -- each position is below the next
-abbrev pub is_rising : List ℕ → Bool
-is_rising places = list_all (λ (pair : ℕ × ℕ). nat_lt pair.0 pair.1) (zip places (drop 1 places))
+abbrev pub places_rise : List ℕ → Bool
+places_rise places = list_all (λ (pair : ℕ × ℕ). nat_lt pair.0 pair.1) (zip places (drop 1 places))
 
 -- a combined limit without positions, with positions that are not strictly rising, or with an unknown one
 abbrev pub is_wrong_combined : List Position → Combined → Bool
-is_wrong_combined positions limit = (length limit.places == 0) || (not (is_rising limit.places) || list_any (is_unknown positions) limit.places)
+is_wrong_combined positions limit = (length limit.places == 0) || (not (places_rise limit.places) || list_any (is_unknown positions) limit.places)
 
 abbrev pub is_wrong_cumulative : List Position → Cumulative → Bool
 is_wrong_cumulative positions limit = is_unknown positions limit.place
+
+-- the position of the side before the one at this place, if there is one
+abbrev pub position_before : List (ℕ × Bool) → ℕ → Option ℕ
+position_before sides zero = None
+position_before sides (suc at) = option_map (λ (side : ℕ × Bool). side.0) (slice_get sides at)
+
+-- the side is of an unknown position, or of one that is not greater than that of the side before it
+abbrev pub is_wrong_side : List Position → Option ℕ → (ℕ × Bool) → Bool
+is_wrong_side positions before side = is_unknown positions side.0 || option_map_or (λ q. nat_le side.0 q) before false
+
+abbrev pub is_wrong_side_at : List Position → List (ℕ × Bool) → ℕ → Bool
+is_wrong_side_at positions sides at = option_map_or (is_wrong_side positions (position_before sides at)) (slice_get sides at) false
+
+-- the place of the first wrong side
+abbrev pub wrong_side : List Position → List (ℕ × Bool) → Option ℕ
+wrong_side positions sides = first_below (is_wrong_side_at positions sides) (length sides)
 
 -- the fault of the positions: the first kind that applies, at its first place
 abbrev pub position_fault : List Position → Option HoldFault
@@ -101,9 +119,13 @@ limit_fault h =
     (option_or (option_map hold.Combined (position (is_wrong_combined h.positions) h.combined))
     (option_map hold.Cumulative (position (is_wrong_cumulative h.positions) h.cumulative))))
 
--- the fault of a hold: that of its positions, else that of its limits
+-- the fault of the sides
+abbrev pub side_fault : Layout → Option HoldFault
+side_fault h = option_map hold.Side (wrong_side h.positions (sides_of h))
+
+-- the fault of a hold: that of its positions, else that of its limits, else that of its sides
 abbrev pub hold_fault : Layout → Option HoldFault
-hold_fault h = option_or (position_fault h.positions) (limit_fault h)
+hold_fault h = option_or (position_fault h.positions) (option_or (limit_fault h) (side_fault h))
 
 -- what the reader of a hold makes sure of, and no fault tests: compartments of one digit, kinds of three capitals, greatest masses of nine digits
 pub record IsWellSpelled (h : Layout) : Type 0 where
@@ -111,6 +133,7 @@ pub record IsWellSpelled (h : Layout) : Type 0 where
   pub kinds : All (λ (p : Position). All (λ (fit : Fit). IsKind fit.kind) p.fits) h.positions
   pub combined : All (λ (limit : Combined). limit.most.0 ≤ 999999999) h.combined
   pub cumulative : All (λ (limit : Cumulative). limit.most.0 ≤ 999999999) h.cumulative
+  pub lateral : IfSome h.lateral (λ (limit : Lateral). limit.most.0 ≤ 999999999)
 
 -- Of a task -------------------------------------------------------------------------------------
 
@@ -123,7 +146,7 @@ is_too_heavy item = is_over_mass item.mass
 -- the fault of the offer: the first kind that applies, at its first place
 abbrev pub item_fault : List Item → Option TaskFault
 item_fault items =
-    option_or (fault_if (nat_lt 48 (length items)) task.TooManyItems)
+    option_or (fault_if (nat_lt 60 (length items)) task.TooManyItems)
     (option_or (option_map task.DuplicateId (first_repeat same_id items))
     (option_map task.ItemTooHeavy (position is_too_heavy items)))
 

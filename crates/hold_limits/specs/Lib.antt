@@ -1,7 +1,10 @@
 pub mod Layout
+pub mod Lateral
 pub mod Problem
 pub mod BranchOrder
 pub mod Placement
+pub mod Arms
 pub mod Faults
 pub mod Bounds
 pub mod Enumeration
+pub mod Twins

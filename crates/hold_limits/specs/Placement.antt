@@ -14,6 +14,7 @@ use Rattle.hold_parts.specs.declared.parts.Loose.{Loose}
 use Rattle.hold_parts.specs.Accepting.{Accepts}
 use Rattle.hold_parts.specs.Limits.{is_listed, is_counted}
 use Rattle.hold_limits.specs.Layout.{Layout}
+use Rattle.hold_limits.specs.Lateral.{side_at, IsWithinLateral}
 use Rattle.hold_limits.specs.Problem.{Problem}
 use Rattle.hold_limits.specs.BranchOrder.{ordered}
 
@@ -71,12 +72,28 @@ hold_index t prefix = int_sum_by (placed_moment t.hold) (placed t prefix) +ℤ i
 abbrev pub take_off_index : Problem → List ℕ → ℤ
 take_off_index t prefix = t.base +ℤ hold_index t prefix
 
--- a sound path whose hold index is in the window
+-- mass times side of a container on its position, and of a loose load on its own, in kilograms
+abbrev pub placed_lateral : Layout → Placed → ℤ
+placed_lateral hold p = pos p.0.mass.0 *ℤ side_at hold p.1
+
+abbrev pub loose_lateral : Layout → Loose → ℤ
+loose_lateral hold l = pos l.mass.0 *ℤ side_at hold l.position
+
+-- the lateral difference: mass times side, summed over the placed containers and the loose loads
+abbrev pub lateral_difference : Problem → List ℕ → ℤ
+lateral_difference t prefix = int_sum_by (placed_lateral t.hold) (placed t prefix) +ℤ int_sum_by (loose_lateral t.hold) t.loose
+
+-- the lateral difference is at most the lateral limit of the hold, if it has one
+abbrev pub KeepsLateralLimit : Problem → List ℕ → Type 0
+KeepsLateralLimit t path = IsWithinLateral t.hold (lateral_difference t path)
+
+-- a sound path whose hold index is in the window and whose lateral difference is within the limit
 pub record IsAdmissible (t : Problem) (path : List ℕ) : Type 0 where
   pub sound : IsSound t path
   pub complete : length path ≡ length t.items
   pub low : t.low ≤ℤ hold_index t path
   pub high : hold_index t path ≤ℤ t.high
+  pub lateral : KeepsLateralLimit t path
 
 -- the ticks from an index to the nearer end of a band, and 0 inside the band
 abbrev pub distance_to : ℤ → ℤ → ℤ → ℕ

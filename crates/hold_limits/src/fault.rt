@@ -32,14 +32,17 @@ pub enum HoldFault {
     /// A cumulative limit at an unknown position.
     #[error("cumulative limit {0} is at an unknown position")]
     Cumulative(usize),
+    /// A side of an unknown position, or of one whose number is not greater than that of the side before it.
+    #[error("side {0} is of an unknown position, or of one that is not after that of the side before it")]
+    Side(usize),
 }
 
 /// What is wrong with a task over a lawful hold. A number is the place of the wrong part in its list, counted from
 /// 0.
 #[derive(Clone, Copy, Debug, PartialEq, Eq, Error)]
 pub enum TaskFault {
-    /// Over 48 containers.
-    #[error("over 48 containers")]
+    /// Over 60 containers.
+    #[error("over 60 containers")]
     TooManyItems,
     /// A container with the identity of an earlier one.
     #[error("container {0} has the identity of an earlier one")]

@@ -1,14 +1,14 @@
-ghost use Rattle.std.specs.Prelude.{◌≡◌, ◌≤◌, ◌↔◌, IfOk, IfErr, Some, None, IsTrue, length};
-ghost use Rattle.std.specs.List.{list_any};
-ghost use Rattle.hold_limits.specs.Layout.{layout_of, name_at};
-ghost use Rattle.hold_limits.specs.Faults.{IsWellSpelled, IsLawfulHold, hold_fault, same_pair};
+ghost use Rattle.std.specs.Prelude.{◌≡◌, ◌==◌, ◌≤◌, ◌↔◌, ℕ, Bool, find, IfOk, IfErr, Some, None, IsTrue, length, option_copied};
+ghost use Rattle.hold_limits.specs.Layout.{layout_of, with_lateral, name_at};
+ghost use Rattle.hold_limits.specs.Lateral.{sides_of, side_at, IsWithinLateral};
+ghost use Rattle.hold_limits.specs.Faults.{IsWellSpelled, IsLawfulHold, hold_fault, side_fault};
 ghost use Rattle.hold_limits.specs.Placement.{IsAccepted, Exclude, influence_at};
-ghost use Rattle.hold_limits.specs.Enumeration.{is_accepted, exclude};
+ghost use Rattle.hold_limits.specs.Enumeration.{is_accepted, exclude, is_within_lateral};
 
 use crate::fault::HoldFault;
-use crate::hold_faults::{fault_of_hold, is_same_pair};
+use crate::hold_faults::{fault_of_hold, fault_of_sides, is_pair_among};
 use desk_base::NoMemory;
-use hold_parts::{Combined, Cumulative, Item, Position, are_same, copied};
+use hold_parts::{Combined, Copyable, Cumulative, Item, Lateral, Position, Same, are_same, copied};
 use std::alloc::Global;
 use std::marker::Model;
 
@@ -19,23 +19,25 @@ pub struct Hold {
     excludes: Vec<(u8, u8)>,
     combined: Vec<Combined>,
     cumulative: Vec<Cumulative>,
+    lateral: Option<Lateral>,
 }
 
 impl Model for Hold {
-    ghost use Rattle.hold_limits.specs.Layout.{Layout, layout_of};
+    ghost use Rattle.hold_limits.specs.Layout.{Layout, layout_under};
     ghost use Rattle.hold_limits.specs.Faults.{IsLawfulHold};
 
     ghost Value = { Layout };
 
-    ghost view = { λ h. layout_of h.positions.items h.excludes.items h.combined.items h.cumulative.items };
+    ghost view = { λ h. layout_under h.lateral h.positions.items h.excludes.items h.combined.items h.cumulative.items };
 
-    ghost invariant = { λ h. IsLawfulHold (layout_of h.positions.items h.excludes.items h.combined.items h.cumulative.items) };
+    ghost invariant = { λ h. IsLawfulHold (layout_under h.lateral h.positions.items h.excludes.items h.combined.items h.cumulative.items) };
 }
 
-fn is_listed_pair(pairs: &[(u8, u8)], one: u8, other: u8) -> bool
-    ensures { result ≡ list_any (λ pair. same_pair pair (one, other)) pairs.now }
+/// The position with this number and its side, where it is listed.
+fn listed_side(sides: &[(u8, bool)], number: u8) -> Option<(u8, bool)>
+    ensures { result ≡ find (λ (side : ℕ × Bool). side.0 == number) sides.now }
 {
-    pairs.iter().any(|pair| is_same_pair(*pair, (one, other)))
+    sides.iter().copied().find(|side| side.0 == number)
 }
 
 impl Hold {
@@ -63,6 +65,25 @@ impl Hold {
                 excludes,
                 combined,
                 cumulative,
+                lateral: None,
+            }),
+        }
+    }
+
+    /// The same hold with this lateral limit, in place of one that it may have had. The limit is of at most nine
+    /// digits. The sides are tested, and with a wrong one the hold is refused and dropped.
+    pub fn with_lateral(self, lateral: Lateral) -> Result<Hold, HoldFault>
+        requires { lateral.most.0 ≤ 999999999 }
+        ensures made { IfOk result (λ hold. hold ≡ with_lateral self lateral) }
+        ensures lawful { IfOk result (λ hold. hold_fault hold ≡ None) }
+        ensures refused { IfErr result (λ fault. hold_fault (with_lateral self lateral) ≡ Some fault) }
+        ensures side { IfErr result (λ fault. side_fault (with_lateral self lateral) ≡ Some fault) }
+    {
+        match fault_of_sides(&self.positions, lateral.sides.as_slice()) {
+            Some(fault) => Err(fault),
+            None => Ok(Hold {
+                lateral: Some(lateral),
+                ..self
             }),
         }
     }
@@ -99,6 +120,26 @@ impl Hold {
         self.cumulative.as_slice()
     }
 
+    /// The limit on the difference of the masses right and left, where the hold has one.
+    pub fn lateral(&self) -> Option<&Lateral>
+        ensures value { option_copied result ≡ self.now.lateral }
+        ensures lawful { IsLawfulHold self.now }
+    {
+        self.lateral.as_ref()
+    }
+
+    /// The positions with their sides, which only a hold with a lateral limit has: a position's number, and whether
+    /// it is on the right.
+    pub fn sides(&self) -> &[(u8, bool)]
+        ensures value { result.now ≡ sides_of self.now }
+        ensures lawful { IsLawfulHold self.now }
+    {
+        match &self.lateral {
+            Some(lateral) => lateral.sides.as_slice(),
+            None => &[],
+        }
+    }
+
     /// How many positions it has. They are numbered from 0.
     pub fn position_count(&self) -> u8
         ensures value { result ≡ length self.now.positions }
@@ -124,9 +165,32 @@ impl Hold {
     pub fn influence_at(&self, number: u8) -> i32
         ensures { result ≡ influence_at self.now number }
     {
-        match self.positions.get(number as usize) {
-            Some(position) => position.influence,
+        self.positions
+            .get(number as usize)
+            .map_or(0, |position| position.influence)
+    }
+
+    /// The side of the position with this number: 1 on the right, -1 on the left, and 0 on neither, as it is for
+    /// every position of a hold without a lateral limit.
+    pub fn side_at(&self, number: u8) -> i32
+        ensures { result ≡ side_at self.now number }
+    {
+        match listed_side(self.sides(), number) {
+            Some((_, true)) => 1,
+            Some((_, false)) => -1,
             None => 0,
+        }
+    }
+
+    /// Whether a difference of the masses right and left, in kilograms, is within the lateral limit. A hold without
+    /// one has nothing to keep.
+    pub fn is_within_lateral(&self, difference: i64) -> bool
+        ensures value { result ≡ is_within_lateral self.now difference }
+        ensures meaning { IsTrue result ↔ IsWithinLateral self.now difference }
+    {
+        match &self.lateral {
+            Some(lateral) => difference.unsigned_abs() <= u64::from(lateral.most.0),
+            None => true,
         }
     }
 
@@ -145,7 +209,7 @@ impl Hold {
         ensures value { result ≡ exclude self.now one other }
         ensures meaning { IsTrue result ↔ Exclude self.now one other }
     {
-        is_listed_pair(self.excludes(), one, other)
+        is_pair_among(self.excludes(), one, other)
     }
 
     /// A hold with the same parts.
@@ -157,6 +221,7 @@ impl Hold {
             excludes: self.excludes.as_slice().to_vec(alloc)?,
             combined: copied(alloc, self.combined.as_slice())?,
             cumulative: self.cumulative.as_slice().to_vec(alloc)?,
+            lateral: self.lateral.copy(alloc)?,
         })
     }
 
@@ -168,6 +233,7 @@ impl Hold {
             && are_same(self.excludes.as_slice(), other.excludes.as_slice())
             && are_same(self.combined.as_slice(), other.combined.as_slice())
             && are_same(self.cumulative.as_slice(), other.cumulative.as_slice())
+            && self.lateral.is_same(&other.lateral)
     }
 }
 

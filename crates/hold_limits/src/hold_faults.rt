@@ -1,9 +1,10 @@
 //! The tests of a hold, in the order of its faults.
 
-ghost use Rattle.std.specs.Prelude.{◌≡◌, position};
+ghost use Rattle.std.specs.Prelude.{◌≡◌, option_map, position};
 ghost use Rattle.std.specs.List.{list_any};
 ghost use Rattle.hold_limits.specs.Layout.{layout_of};
-ghost use Rattle.hold_limits.specs.Faults.{position_fault, limit_fault, hold_fault, has_wrong_number, has_wrong_influence, has_wrong_fits, has_wrong_mass, has_wrong_fit_mass, has_too_many, is_unknown, is_bulk, has_wrong_positions, same_pair, is_wrong_exclude, is_wrong_exclude_at, wrong_exclude, is_rising, is_wrong_combined, is_wrong_cumulative};
+ghost use Rattle.hold_limits.specs.declared.fault.HoldFault.TheVariants as hold;
+ghost use Rattle.hold_limits.specs.Faults.{position_fault, limit_fault, hold_fault, has_wrong_number, has_wrong_influence, has_wrong_fits, has_wrong_mass, has_wrong_fit_mass, has_too_many, is_unknown, is_bulk, has_wrong_positions, same_pair, is_wrong_exclude, is_wrong_exclude_at, wrong_exclude, places_rise, is_wrong_combined, is_wrong_cumulative, position_before, is_wrong_side_at, wrong_side};
 
 use crate::fault::HoldFault;
 use hold_parts::{Combined, Cumulative, Fit, Position, first_repeat};
@@ -110,17 +111,12 @@ fn are_pair_positions_wrong(positions: &[Position], pair: (u8, u8)) -> bool
         || is_position_bulk(positions, pair.1)
 }
 
-/// Whether the pairs have the same two positions, in either order.
-pub fn is_same_pair(one: (u8, u8), other: (u8, u8)) -> bool
-    ensures { result ≡ same_pair one other }
+/// Whether the two positions are one of the pairs, in either order.
+pub fn is_pair_among(pairs: &[(u8, u8)], one: u8, other: u8) -> bool
+    ensures { result ≡ list_any (λ pair. same_pair pair (one, other)) pairs.now }
 {
-    (one.0 == other.0 && one.1 == other.1) || (one.0 == other.1 && one.1 == other.0)
-}
-
-fn is_pair_among(pair: (u8, u8), others: &[(u8, u8)]) -> bool
-    ensures { result ≡ list_any (same_pair pair) others.now }
-{
-    others.iter().any(|other| is_same_pair(pair, *other))
+    pairs.iter().any(|pair| (pair.0 == one && pair.1 == other)
+        || (pair.0 == other && pair.1 == one))
 }
 
 fn is_exclude_wrong(positions: &[Position], excludes: &[(u8, u8)], at: usize) -> bool
@@ -128,7 +124,7 @@ fn is_exclude_wrong(positions: &[Position], excludes: &[(u8, u8)], at: usize) ->
 {
     match excludes.get(at) {
         Some(pair) => are_pair_positions_wrong(positions, *pair)
-            || is_pair_among(*pair, &excludes[..at]),
+            || is_pair_among(&excludes[..at], pair.0, pair.1),
         None => false,
     }
 }
@@ -146,7 +142,7 @@ fn first_wrong_exclude(positions: &[Position], excludes: &[(u8, u8)]) -> Option<
 }
 
 fn are_rising(numbers: &[u8]) -> bool
-    ensures { result ≡ is_rising numbers.now }
+    ensures { result ≡ places_rise numbers.now }
 {
     numbers
         .iter()
@@ -221,6 +217,42 @@ fn fault_of_limits(
         return Some(HoldFault::Combined(place));
     }
     first_wrong_cumulative(positions, cumulative).map(HoldFault::Cumulative)
+}
+
+fn position_before(sides: &[(u8, bool)], at: usize) -> Option<u8>
+    ensures { result ≡ position_before sides.now at }
+{
+    let before = at.checked_sub(1)?;
+    sides.get(before).map(|(number, _)| *number)
+}
+
+fn is_side_wrong(positions: &[Position], sides: &[(u8, bool)], at: usize) -> bool
+    ensures { result ≡ is_wrong_side_at positions.now sides.now at }
+{
+    match sides.get(at) {
+        Some((number, _)) => is_position_unknown(positions, *number)
+            || position_before(sides, at).is_some_and(|before| *number <= before),
+        None => false,
+    }
+}
+
+#[tactic(auto, using(desk_base::proofs::ListLemmas::first_steps))]
+fn first_wrong_side(positions: &[Position], sides: &[(u8, bool)]) -> Option<usize>
+    ensures { result ≡ wrong_side positions.now sides.now }
+{
+    for at in 0..sides.len() {
+        if is_side_wrong(positions, sides, at) {
+            return Some(at);
+        }
+    }
+    None
+}
+
+/// The fault of the sides of a hold with these positions.
+pub fn fault_of_sides(positions: &[Position], sides: &[(u8, bool)]) -> Option<HoldFault>
+    ensures { result ≡ option_map hold.Side (wrong_side positions.now sides.now) }
+{
+    first_wrong_side(positions, sides).map(HoldFault::Side)
 }
 
 /// The first fault of a hold with these parts: the first kind that there is, at its first place in its list.

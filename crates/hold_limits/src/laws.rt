@@ -1,11 +1,13 @@
 //! Laws of the definitions themselves: of branch order, sound prefixes, best paths, and lawful holds and tasks.
 
-ghost use Rattle.std.specs.Prelude.{◌≡◌, ◌↔◌, ◌<◌, ◌≤◌, ℕ, List, ◌++◌, length, All, Some, None, IsTrue, MatchOption, slice_get};
+ghost use Rattle.std.specs.Prelude.{◌≡◌, ◌↔◌, ◌<◌, ◌≤◌, ℕ, pos, ◌-ℤ◌, swap, List, ◌++◌, length, All, Some, None, IsTrue, MatchOption, slice_get};
 ghost use Rattle.std.specs.Cmp.{IsTotalOrder};
 ghost use Rattle.hold_parts.specs.declared.parts.Item.{Item};
 ghost use Rattle.hold_limits.specs.Problem.{Problem};
 ghost use Rattle.hold_limits.specs.BranchOrder.{Offered, IsBranchOrder, branch_order, ordered};
-ghost use Rattle.hold_limits.specs.Placement.{placed, key_cmp, IsSound, IsAdmissible, IsBest};
+ghost use Rattle.hold_limits.specs.Placement.{placed, load_of, hold_index, lateral_difference, distance, key_cmp, IsSound, IsAdmissible, IsBest};
+ghost use Rattle.hold_limits.specs.Lateral.{is_right, is_left};
+ghost use Rattle.hold_limits.specs.Twins.{StandTwins, IsRising, is_rising};
 ghost use Rattle.hold_limits.specs.Enumeration.{is_admissible, best_by_trial};
 ghost use Rattle.hold_limits.specs.Layout.{Layout};
 ghost use Rattle.hold_limits.specs.Faults.{IsWellSpelled, IsLawfulHold, IsLawful, hold_fault, task_fault};
@@ -39,6 +41,28 @@ pub fn placement_laws()
         → IsAdmissible t path → (best : List ℕ) × IsBest t best }
     ensures by_trial { (t : Problem)
         → MatchOption (best_by_trial t) ((path : List ℕ) → IsAdmissible t path → ⊥) (IsBest t) }
+{}
+
+/// Facts on interchangeable containers, and on what a hold's sides mean: two twins may exchange their positions, and
+/// the path stays sound and keeps its hold index and its lateral difference; so the best path is rising, and where a
+/// path is admissible there is a rising one that is admissible too and lies no farther from the ideal. A search need
+/// therefore look at rising paths alone. The lateral difference is the load of the right positions less that of the
+/// left ones.
+///
+/// The call does nothing: it is there for its contract.
+pub fn twin_laws()
+    ensures sound { (t : Problem) (path : List ℕ) (i j : ℕ)
+        → StandTwins t path i j → IsSound t path → IsSound t (swap path i j) }
+    ensures hold_index { (t : Problem) (path : List ℕ) (i j : ℕ)
+        → StandTwins t path i j → hold_index t (swap path i j) ≡ hold_index t path }
+    ensures lateral { (t : Problem) (path : List ℕ) (i j : ℕ)
+        → StandTwins t path i j → lateral_difference t (swap path i j) ≡ lateral_difference t path }
+    ensures best { (t : Problem) (path : List ℕ) → IsBest t path → IsRising t path }
+    ensures rising { (t : Problem) (path : List ℕ) → IsAdmissible t path
+        → (other : List ℕ) × IsAdmissible t other × IsRising t other × (distance t other ≤ distance t path) }
+    ensures tested { (t : Problem) (prefix : List ℕ) → IsTrue (is_rising t prefix) ↔ IsRising t prefix }
+    ensures sides { (t : Problem) (prefix : List ℕ) → lateral_difference t prefix
+        ≡ pos (load_of (is_right t.hold) t prefix) -ℤ pos (load_of (is_left t.hold) t prefix) }
 {}
 
 /// A hold or a task has no fault exactly where it keeps its rules: there are few enough of each thing, masses and

@@ -8,17 +8,23 @@ mod fault;
 mod hold;
 mod hold_faults;
 mod laws;
+mod moments;
+mod rising;
 mod sound;
 mod task;
 mod task_faults;
 
 pub use arrayvec::ArrayVec;
-pub use balance::{distance_from_ideal, hold_index_of, is_in_window, outcome};
+pub use balance::{
+    distance_from_ideal, hold_index_of, is_in_window, lateral_difference_of, lateral_of, outcome,
+};
 pub use fault::{HoldFault, TaskFault};
 pub use hold::Hold;
 pub use hold_parts::{
-    Combined, Cumulative, Fit, Fits, Item, Limit, Loose, Name, Places, Position, UldId, is_kind,
+    Combined, Cumulative, Fit, Fits, Item, Lateral, Limit, Loose, Name, Places, Position, Sides,
+    UldId, is_kind,
 };
-pub use laws::{lawful_bounds, placement_laws};
+pub use laws::{lawful_bounds, placement_laws, twin_laws};
+pub use rising::is_rising;
 pub use sound::is_sound;
 pub use task::{Path, Task};

@@ -10,7 +10,7 @@ use crate::hold_faults::{MOST_MASS, is_position_bulk};
 use hold_parts::{Indices, Item, Loose, Position, first_repeat};
 use mass_units::{Kg, Ticks};
 
-const MOST_ITEMS: usize = 48;
+const MOST_ITEMS: usize = 60;
 
 const MOST_INDEX: u64 = 1_000_000_000;
 

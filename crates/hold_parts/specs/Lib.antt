@@ -1,4 +1,5 @@
 pub mod Spellings
 pub mod Accepting
+pub mod Twins
 pub mod Limits
 pub mod Repeats

@@ -1,7 +1,8 @@
-//! Which containers a position accepts.
+//! Which containers a position accepts, and which are interchangeable.
 
 ghost use Rattle.std.specs.Prelude.{◌≡◌, ◌↔◌, IsTrue};
 ghost use Rattle.hold_parts.specs.Accepting.{Accepts, accepts, has_kind};
+ghost use Rattle.hold_parts.specs.Twins.{AreTwins, are_twins};
 
 use crate::parts::{Item, Position};
 
@@ -23,5 +24,15 @@ impl Position {
     {
         self.fits.as_slice().iter().any(|fit| fit.kind.as_slice() == item.id.kind()
             && item.mass.0 <= fit.most.0)
+    }
+}
+
+impl Item {
+    /// Whether the two containers are of one kind and of one mass, so that each may stand in the other's place.
+    pub fn is_twin_of(&self, other: &Item) -> bool
+        ensures value { result ≡ are_twins self.now other.now }
+        ensures meaning { IsTrue result ↔ AreTwins self.now other.now }
+    {
+        self.id.kind() == other.id.kind() && self.mass == other.mass
     }
 }

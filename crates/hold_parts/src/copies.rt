@@ -2,8 +2,8 @@
 
 ghost use Rattle.std.specs.Prelude.{◌≡◌, IfOk};
 
-use crate::lists::{Fits, Places};
-use crate::parts::{Combined, Item, Position};
+use crate::lists::{Fits, Places, Sides};
+use crate::parts::{Combined, Item, Lateral, Position};
 use desk_base::NoMemory;
 use std::alloc::Global;
 
@@ -43,6 +43,24 @@ impl Copyable for Combined {
             places: Places::from(self.places.as_slice().to_vec(alloc)?),
             most: self.most,
         })
+    }
+}
+
+impl Copyable for Lateral {
+    fn copy(&self, alloc: Global) -> Result<Lateral, NoMemory> {
+        Ok(Lateral {
+            most: self.most,
+            sides: Sides::from(self.sides.as_slice().to_vec(alloc)?),
+        })
+    }
+}
+
+impl<T: Copyable> Copyable for Option<T> {
+    fn copy(&self, alloc: Global) -> Result<Option<T>, NoMemory> {
+        match self {
+            Some(part) => Ok(Some(part.copy(alloc)?)),
+            None => Ok(None),
+        }
     }
 }
 

@@ -1,5 +1,5 @@
 //! The parts of a hold and of a loading task: positions with the kinds and masses that they accept, combined and
-//! cumulative limits, containers, loose loads, and their names and identities.
+//! cumulative limits, sides with a lateral limit, containers, loose loads, and their names and identities.
 #![tactic(auto)]
 
 mod accepting;
@@ -14,8 +14,8 @@ mod texts;
 
 pub use copies::{Copyable, copied};
 pub use limit::Limit;
-pub use lists::{Fit, Fits, Places};
-pub use parts::{Combined, Cumulative, Indices, Item, Loose, Position};
+pub use lists::{Fit, Fits, Places, Sides};
+pub use parts::{Combined, Cumulative, Indices, Item, Lateral, Loose, Position};
 pub use repeats::{Alike, first_repeat};
 pub use sameness::{Same, are_same};
 pub use spellings::is_kind;

@@ -90,3 +90,42 @@ impl From<Places> for Vec<u8> {
         places.list
     }
 }
+
+/// Positions with their sides: a position's number, and whether it is on the right.
+#[derive(Debug, Drop)]
+pub struct Sides {
+    list: Vec<(u8, bool)>,
+}
+
+impl Model for Sides {
+    ghost use Rattle.std.specs.Prelude.{ℕ, Bool, List};
+
+    ghost Value = { List (ℕ × Bool) };
+
+    ghost view = { λ s. s.list.items };
+}
+
+impl Sides {
+    /// The positions with their sides, in the order in which they were given.
+    pub fn as_slice(&self) -> &[(u8, bool)]
+        ensures { result.now ≡ self.now }
+    {
+        self.list.as_slice()
+    }
+}
+
+impl From<Vec<(u8, bool)>> for Sides {
+    ghost from_gives = { λ list sides. sides ≡ list.items };
+
+    fn from(list: Vec<(u8, bool)>) -> Sides {
+        Sides { list }
+    }
+}
+
+impl From<Sides> for Vec<(u8, bool)> {
+    ghost from_gives = { λ sides list. list.items ≡ sides };
+
+    fn from(sides: Sides) -> Vec<(u8, bool)> {
+        sides.list
+    }
+}

@@ -1,6 +1,6 @@
 //! The parts of a hold and of a task.
 
-use crate::lists::{Fits, Places};
+use crate::lists::{Fits, Places, Sides};
 use crate::texts::{Name, UldId};
 use mass_units::{Band, Kg, Ticks};
 
@@ -31,6 +31,14 @@ pub struct Cumulative {
     pub forward: bool,
     pub place: u8,
     pub most: Kg,
+}
+
+/// The masses on the right and on the left differ by at most `most`. A position without a side counts for neither.
+#[derive(Debug, Drop)]
+pub struct Lateral {
+    pub most: Kg,
+    /// The positions to the right and to the left of the centre line.
+    pub sides: Sides,
 }
 
 /// A container of the offer.

@@ -3,7 +3,7 @@
 ghost use Rattle.std.specs.Prelude.{◌≡◌, ◌↔◌, IsTrue};
 
 use crate::lists::Fit;
-use crate::parts::{Combined, Cumulative, Indices, Item, Loose, Position};
+use crate::parts::{Combined, Cumulative, Indices, Item, Lateral, Loose, Position};
 use mass_units::Band;
 
 /// Exact equality of all parts, which is what contracts mean by two values being equal.
@@ -33,6 +33,22 @@ impl Same for (u8, u8) {
     }
 }
 
+impl Same for (u8, bool) {
+    fn is_same(&self, other: &(u8, bool)) -> bool {
+        *self == *other
+    }
+}
+
+impl<T: Same> Same for Option<T> {
+    fn is_same(&self, other: &Option<T>) -> bool {
+        match (self, other) {
+            (Some(one), Some(other)) => one.is_same(other),
+            (None, None) => true,
+            _ => false,
+        }
+    }
+}
+
 impl Same for Fit {
     fn is_same(&self, other: &Fit) -> bool {
         *self == *other
@@ -58,6 +74,12 @@ impl Same for Combined {
 impl Same for Cumulative {
     fn is_same(&self, other: &Cumulative) -> bool {
         *self == *other
+    }
+}
+
+impl Same for Lateral {
+    fn is_same(&self, other: &Lateral) -> bool {
+        self.most == other.most && are_same(self.sides.as_slice(), other.sides.as_slice())
     }
 }
 

@@ -88,6 +88,45 @@ fn a_position_accepts_its_kinds_up_to_their_greatest_masses(rt: HostRuntime) -> 
 }
 
 #[test]
+fn twins_are_of_one_kind_and_of_one_mass(rt: HostRuntime) -> Result<(), Fail> {
+    let one = Item {
+        id: UldId::read(b"AKE10001XX").ok_or("an identity")?,
+        mass: Kg(1000),
+    };
+    for (id, mass, twins) in [
+        (b"AKE2002YY".as_slice(), 1000, true),
+        (b"AKE10002XX", 999, false),
+        (b"PMC10001XX", 1000, false),
+    ] {
+        let other = Item {
+            id: UldId::read(id).ok_or("an identity")?,
+            mass: Kg(mass),
+        };
+        assert_eq!(rt; one.is_twin_of(&other), twins);
+    }
+    Ok(())
+}
+
+#[test]
+fn a_lateral_limit_is_copied_and_compared_whole(rt: HostRuntime) -> Result<(), Fail> {
+    let alloc = rt.alloc();
+    let lateral = |most: u32, right: bool| {
+        Ok::<Lateral, Fail>(Lateral {
+            most: Kg(most),
+            sides: vec![in alloc; (0, true), (3, right)]?.into(),
+        })
+    };
+    let one = Some(lateral(500, false)?);
+    let copy = one.copy(alloc)?;
+    assert!(rt; one.is_same(&copy));
+    assert_eq!(rt; copy.map(|limit| limit.sides.as_slice().len()), Some(2));
+    assert!(rt; !one.is_same(&Some(lateral(501, false)?)));
+    assert!(rt; !one.is_same(&Some(lateral(500, true)?)));
+    assert!(rt; !one.is_same(&None));
+    Ok(())
+}
+
+#[test]
 fn a_cumulative_limit_covers_its_own_position_and_one_side(rt: HostRuntime) {
     let aft = Cumulative {
         forward: false,

@@ -86,6 +86,6 @@ fn faults_are_printed_in_plain_words(rt: HostRuntime) -> Result<(), Fail> {
     let fault = HoldFault::SameName(3).to_string(rt.alloc())?;
     assert_eq!(rt; fault.as_str(), "position 3 has the name of an earlier one");
     let fault = TaskFault::TooManyItems.to_string(rt.alloc())?;
-    assert_eq!(rt; fault.as_str(), "over 48 containers");
+    assert_eq!(rt; fault.as_str(), "over 60 containers");
     Ok(())
 }

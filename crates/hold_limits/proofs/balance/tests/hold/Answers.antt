@@ -32,4 +32,5 @@ new-requires-4 c =
           (All-from_recursion HasKinds five (a.ensures.kinds, (b.ensures.kinds, (d.ensures.kinds, (e.ensures.kinds, (f.ensures.kinds, tt))))));
       combined = All-same (λ (limit : Combined). limit.most.0 ≤ 999999999) _ [] c.new-2.ensures.items (All-nil (λ (limit : Combined). limit.most.0 ≤ 999999999));
       cumulative = All-same (λ (limit : Cumulative). limit.most.0 ≤ 999999999) _ [] c.new-3.ensures.items (All-nil (λ (limit : Cumulative). limit.most.0 ≤ 999999999));
+      lateral = tt;
     }

@@ -22,4 +22,5 @@ new-requires c =
       kinds = All-same HasKinds _ one c.in_ok-positions.ensures.items (All-from_recursion HasKinds one (a.ensures.kinds, tt));
       combined = c.requires.combined;
       cumulative = c.requires.cumulative;
+      lateral = tt;
     }
