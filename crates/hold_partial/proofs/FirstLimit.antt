@@ -11,9 +11,9 @@ use Rattle.hold_limits.specs.Layout.{Layout}
 use Rattle.hold_limits.specs.Problem.{Problem}
 use Rattle.hold_limits.specs.Placement.{load_of}
 use Rattle.hold_parts.specs.Limits.{is_listed, is_counted}
-use Rattle.hold_partial.specs.declared.rule.RuleBroken.TheVariants as rule
+use Rattle.hold_reach.specs.declared.rule.RuleBroken.TheVariants as rule
 use Rattle.hold_partial.specs.Limits.{Allowance, limits_of, rule_at}
-use Rattle.hold_partial.specs.Rules.{breaks_combined, breaks_cumulative, limit_broken}
+use Rattle.hold_reach.specs.Rules.{breaks_combined, breaks_cumulative, limit_broken}
 
 -- Finding ---------------------------------------------------------------------------------------
 

@@ -1,10 +1,3 @@
-pub mod RuleLemmas
-pub mod ChoiceLemmas
-pub mod ViableLemmas
-pub mod LoadLemmas
-pub mod BandLemmas
-pub mod ReachLemmas
-pub mod CommonTick
 pub mod SetLemmas
 pub mod ArrangementLemmas
 pub mod TableLemmas
@@ -14,4 +7,6 @@ pub mod LimitLemmas
 pub mod FirstLimit
 pub mod LoadSteps
 pub mod LevelSteps
+pub mod ClosedLemmas
+pub mod SideLemmas
 pub mod KeptLemmas

@@ -11,8 +11,8 @@ use Rattle.hold_limits.specs.Problem.{Problem}
 use Rattle.hold_limits.specs.BranchOrder.{ordered}
 use Rattle.hold_limits.specs.Placement.{placed, load_of, loose_load}
 use Rattle.hold_partial.specs.Limits.{added_at}
-use Rattle.hold_partial.proofs.BandLemmas.{range-more}
-use Rattle.hold_partial.proofs.RuleLemmas.{zip-nil}
+use Rattle.hold_reach.proofs.SpanLemmas.{range-more}
+use Rattle.hold_reach.proofs.RuleLemmas.{zip-nil}
 
 -- Tables ----------------------------------------------------------------------------------------
 

@@ -18,10 +18,10 @@ use Rattle.hold_limits.specs.Faults.{IsLawful}
 use Rattle.hold_limits.specs.Placement.{Placed, placed, placed_load, load_of, IsSound}
 use Rattle.hold_parts.specs.Limits.{is_listed, is_counted}
 use Rattle.hold_partial.specs.Limits.{Allowance, limits_of, limit_covers, limit_load, limits_on, rule_at, added_at, AreLoads, AreAllowed}
-use Rattle.hold_partial.specs.Rules.{limit_broken}
+use Rattle.hold_reach.specs.Rules.{limit_broken}
 use Rattle.hold_partial.proofs.FirstLimit.{each-number, find-filter, find-below, find-place, is_over, first-limit}
 use Rattle.hold_partial.proofs.LimitLemmas.{filter-more}
-use Rattle.hold_partial.proofs.RuleLemmas.{placed-push}
+use Rattle.hold_reach.proofs.RuleLemmas.{placed-push}
 
 -- One container more ----------------------------------------------------------------------------
 

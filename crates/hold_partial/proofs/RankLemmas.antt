@@ -1,29 +1,24 @@
--- the first and the last open rank have the least and the greatest moment
+-- the ranks with the least and the greatest factor have the least and the greatest amount
 use Rattle.std.proofs.Common.{◌≡◌, ◌≢◌, ⊎_elim, ℕ, zero, suc, ◌*◌, ◌<◌, ◌≤◌, ℤ, pos, negsuc, ◌*ℤ◌, ◌≤ℤ◌, Bool, true, false, ◌||◌, ◌==◌, List, [], ◌∷◌, ◌++◌, length, get_or, map, Option, Some, None, refl, ap, sym, subst, ◌∙◌, arith, int_lt, cond, fold, eqb-true, add-one}
 use Rattle.std.proofs.Math.IntN.{neg_ℤ}
 use Rattle.std.proofs.Math.Nat.{mul-le-mul_left}
-use Rattle.std.proofs.lemmas.Bool.{cases_Bool, false≢true, and_parts}
+use Rattle.std.proofs.lemmas.Bool.{cases_Bool, false≢true}
 use Rattle.std.proofs.lemmas.Bool.Decides.{nat_tests}
 use Rattle.std.proofs.lemmas.Int.{ints}
 use Rattle.std.proofs.lemmas.List.Elements.{at_from_Contains}
 use Rattle.std.proofs.lemmas.List.Folds.{list_any-append}
 use Rattle.std.proofs.lemmas.Option.{slice_get-get_or, slice_get_cases, get_or_from_slice_get}
-use Rattle.std.specs.Prelude.{slice_get}
+use Rattle.std.specs.Prelude.{slice_get, MatchOption}
 use Rattle.std.specs.Int.{int_min, int_max}
 use Rattle.std.specs.List.{filter, list_any, range_with_len, AllByRecursion}
-use Rattle.hold_parts.specs.declared.parts.Item.{Item}
 use Rattle.hold_limits.specs.Layout.{Layout}
-use Rattle.hold_limits.specs.Problem.{Problem}
-use Rattle.hold_limits.specs.Enumeration.{is_accepted}
-use Rattle.hold_limits.specs.Placement.{influence_at, placed_moment}
-use Rattle.mass_units.specs.declared.Band.{Band}
-use Rattle.hold_partial.specs.Arrangement.{Ranked, ranked_of, IsByInfluence, at_rank}
-use Rattle.hold_partial.specs.Bands.{IsBandOf}
-use Rattle.hold_partial.specs.Levels.{IsRankBand}
-use Rattle.hold_partial.specs.Reach.{is_open, open_moments, least, greatest}
-use Rattle.hold_partial.proofs.BandLemmas.{range-more}
-use Rattle.hold_limits.proofs.EnumerationLemmas.{is_accepted-Decides}
-use Rattle.hold_limits.proofs.SoundLemmas.{accepted_within}
+use Rattle.hold_limits.specs.Placement.{influence_at}
+use Rattle.hold_reach.specs.declared.span.Span.{Span}
+use Rattle.hold_reach.specs.Extents.{IsSpanOfList}
+use Rattle.hold_partial.specs.Arrangement.{Ranked, ranked_of, AreRising, IsByInfluence, at_rank}
+use Rattle.hold_partial.specs.Levels.{IsSpanOnRanks}
+use Rattle.hold_reach.specs.Reach.{least, greatest}
+use Rattle.hold_reach.proofs.SpanLemmas.{range-more}
 use Rattle.desk_base.proofs.PairLemmas.{each-weaker}
 
 -- Least and greatest -------------------------------------------------------------------------------
@@ -209,54 +204,75 @@ rank-passes p ranks r passes = ⊎_elim
     (λ past. absurd (false≢true (rw past.1 at passes)))
     (slice_get_cases ranks r).1
 
-pub open-known : (t : Problem) (prefix : List ℕ) (item : Item) (q : ℕ) → is_open t prefix item q ≡ true → q < length t.hold.positions
-open-known t prefix item q passes = accepted_within t.hold (item, q) ((is_accepted-Decides t.hold (item, q)).0 (and_parts (is_accepted t.hold (item, q)) _ passes).0)
+-- the position of a rank that passes
+pub number-at : (hold : Layout) (ranks : List Ranked) → IsByInfluence hold ranks → (p : ℕ → Bool) (r : ℕ) → at_rank p ranks r ≡ true
+    → (q : ℕ) × (slice_get ranks r ≡ Some (ranked_of hold q)) × (p q ≡ true)
+number-at hold ranks arranged p r passes =
+    let found = rank-passes p ranks r passes in
+    let here : get_or ranks r found.0 ≡ found.0 = get_or_from_slice_get ranks r found.0 found.0 found.2 in
+    let known : found.0.0 ≡ influence_at hold found.0.1 = (rw here at (arranged.known r found.0 found.1)).1 in
+    (found.0.1, found.2 ∙ ap (λ (i : ℤ). Some (i, found.0.1)) known, found.3)
 
-no-band : (t : Problem) (prefix : List ℕ) (item : Item) (ranks : List Ranked) → IsByInfluence t.hold ranks → (passes : ℕ → Bool) → ((r : ℕ) → passes r ≡ at_rank (is_open t prefix item) ranks r)
-    → ((r : ℕ) → passes r ≡ false) → open_moments t prefix item ≡ []
-no-band t prefix item ranks arranged passes same none =
-    let p = is_open t prefix item in
-    ap (map (λ q. placed_moment t.hold (item, q))) (filter-fails p (range_with_len 0 (length t.hold.positions)) (λ q. ⊎_elim
-    (λ (opens : p q ≡ true).
-    let rank = rank-of t.hold ranks arranged q (open-known t prefix item q opens) in
-    let at : at_rank p ranks rank.0 ≡ true = rw rank.2 opens in
+-- each rank has the factor of its position
+abbrev pub IsFactorOf : Layout → List Ranked → (ℕ → ℤ) → (ℕ → ℤ) → Type 0
+IsFactorOf hold ranks factor at = (r q : ℕ) → slice_get ranks r ≡ Some (ranked_of hold q) → factor r ≡ at q
+
+no-span : (hold : Layout) (ranks : List Ranked) → IsByInfluence hold ranks → (p : ℕ → Bool) → ((q : ℕ) → p q ≡ true → q < length hold.positions) → (passes : ℕ → Bool)
+    → ((r : ℕ) → passes r ≡ at_rank p ranks r) → (f : ℕ → ℤ) → ((r : ℕ) → passes r ≡ false) → map f (filter p (range_with_len 0 (length hold.positions))) ≡ []
+no-span hold ranks arranged p known passes same f none =
+    ap (map f) (filter-fails p (range_with_len 0 (length hold.positions)) (λ q. ⊎_elim
+    (λ (is : p q ≡ true).
+    let rank = rank-of hold ranks arranged q (known q is) in
+    let at : at_rank p ranks rank.0 ≡ true = rw rank.2 is in
     absurd (false≢true (sym (none rank.0) ∙ same rank.0 ∙ at)))
-    (λ (closed : p q ≡ false). closed)
+    (λ (not : p q ≡ false). not)
     (cases_Bool (p q))))
 
-some-band : (t : Problem) (prefix : List ℕ) (item : Item) (ranks : List Ranked) → IsByInfluence t.hold ranks → (passes : ℕ → Bool) → ((r : ℕ) → passes r ≡ at_rank (is_open t prefix item) ranks r)
-    → (e : Band) → IsRankBand passes item.mass.0 ranks (Some e) → IsBandOf (open_moments t prefix item) (Some e)
-some-band t prefix item ranks arranged passes same e band =
-    let p = is_open t prefix item in
-    let f : ℕ → ℤ = λ q. placed_moment t.hold (item, q) in
-    let n : ℕ = length t.hold.positions in
-    let a = rank-passes p ranks band.0 (sym (same band.0) ∙ band.2) in
-    let b = rank-passes p ranks band.1 (sym (same band.1) ∙ band.3) in
-    let a_at : get_or ranks band.0 a.0 ≡ a.0 = get_or_from_slice_get ranks band.0 a.0 a.0 a.2 in
-    let b_at : get_or ranks band.1 a.0 ≡ b.0 = get_or_from_slice_get ranks band.1 b.0 a.0 b.2 in
-    let a_known : a.0.0 ≡ influence_at t.hold a.0.1 = (rw a_at at (arranged.known band.0 a.0 a.1)).1 in
-    let b_known : b.0.0 ≡ influence_at t.hold b.0.1 = (rw b_at at (arranged.known band.1 a.0 b.1)).1 in
-    let between : (q : ℕ) → p q ≡ true → (f a.0.1 ≤ℤ f q) × (f q ≤ℤ f b.0.1) = λ q opens.
-    let rank = rank-of t.hold ranks arranged q (open-known t prefix item q opens) in
-    let at : at_rank p ranks rank.0 ≡ true = rw rank.2 opens in
-    let order = band.4 rank.0 (same rank.0 ∙ at) in
-    let r_at : get_or ranks rank.0 a.0 ≡ ranked_of t.hold q = get_or_from_slice_get ranks rank.0 (ranked_of t.hold q) a.0 rank.2 in
-    let from = rw (a_at, r_at, a_known) at (arranged.rising band.0 rank.0 a.0 order.0 rank.1) in
-    let to = rw (r_at, b_at, b_known) at (arranged.rising rank.0 band.1 a.0 order.1 b.1) in
-    (moment-order item.mass.0 _ _ from, moment-order item.mass.0 _ _ to) in
+some-span : (hold : Layout) (ranks : List Ranked) → IsByInfluence hold ranks → (p : ℕ → Bool) → ((q : ℕ) → p q ≡ true → q < length hold.positions) → (passes : ℕ → Bool)
+    → ((r : ℕ) → passes r ≡ at_rank p ranks r) → (mass : ℕ) (factor at : ℕ → ℤ) → IsFactorOf hold ranks factor at
+    → (e : Span) → IsSpanOnRanks passes factor mass (Some e) → IsSpanOfList (map (λ q. pos mass *ℤ at q) (filter p (range_with_len 0 (length hold.positions)))) (Some e)
+some-span hold ranks arranged p known passes same mass factor at factors e span =
+    let f : ℕ → ℤ = λ q. pos mass *ℤ at q in
+    let n : ℕ = length hold.positions in
+    let a = number-at hold ranks arranged p span.0 (sym (same span.0) ∙ span.2) in
+    let b = number-at hold ranks arranged p span.1 (sym (same span.1) ∙ span.3) in
+    let between : (q : ℕ) → p q ≡ true → (f a.0 ≤ℤ f q) × (f q ≤ℤ f b.0) = λ q is.
+    let rank = rank-of hold ranks arranged q (known q is) in
+    let there : at_rank p ranks rank.0 ≡ true = rw rank.2 is in
+    let order = rw (factors span.0 a.0 a.1, factors rank.0 q rank.2, factors span.1 b.0 b.1) at (span.4 rank.0 (same rank.0 ∙ there)) in
+    (moment-order mass _ _ order.0, moment-order mass _ _ order.1) in
     let qs = filter p (range_with_len 0 n) in
-    let found = least-and-greatest f a.0.1 b.0.1 qs
-    (in-filter p (range_with_len 0 n) a.0.1 (in-range n a.0.1 (open-known t prefix item a.0.1 a.3)) a.3)
-    (in-filter p (range_with_len 0 n) b.0.1 (in-range n b.0.1 (open-known t prefix item b.0.1 b.3)) b.3)
-    (each-weaker (λ q. p q ≡ true) (λ q. (f a.0.1 ≤ℤ f q) × (f q ≤ℤ f b.0.1)) between qs (each-passes p (range_with_len 0 n))) in
-    let values = band.5 a.0 in (
+    let found = least-and-greatest f a.0 b.0 qs
+    (in-filter p (range_with_len 0 n) a.0 (in-range n a.0 (known a.0 a.2)) a.2)
+    (in-filter p (range_with_len 0 n) b.0 (in-range n b.0 (known b.0 b.2)) b.2)
+    (each-weaker (λ q. p q ≡ true) (λ q. (f a.0 ≤ℤ f q) × (f q ≤ℤ f b.0)) between qs (each-passes p (range_with_len 0 n))) in (
       found.0,
-      rw (a_at, a_known) at values.0 ∙ found.1,
-      rw (b_at, b_known) at values.1 ∙ found.2,
+      span.5 ∙ ap (λ x. pos mass *ℤ x) (factors span.0 a.0 a.1) ∙ found.1,
+      span.6 ∙ ap (λ x. pos mass *ℤ x) (factors span.1 b.0 b.1) ∙ found.2,
     )
 
--- the band on the ranks of a container's open positions goes from its least to its greatest moment
-pub rank-band : (t : Problem) (prefix : List ℕ) (item : Item) (ranks : List Ranked) → IsByInfluence t.hold ranks → (passes : ℕ → Bool) → ((r : ℕ) → passes r ≡ at_rank (is_open t prefix item) ranks r)
-    → (band : Option Band) → IsRankBand passes item.mass.0 ranks band → IsBandOf (open_moments t prefix item) band
-rank-band t prefix item ranks arranged passes same None none = no-band t prefix item ranks arranged passes same none
-rank-band t prefix item ranks arranged passes same (Some e) band = some-band t prefix item ranks arranged passes same e band
+-- the span on the ranks of some positions goes from the least to the greatest amount on these positions
+pub span-on-ranks : (hold : Layout) (ranks : List Ranked) → IsByInfluence hold ranks → (p : ℕ → Bool) → ((q : ℕ) → p q ≡ true → q < length hold.positions) → (passes : ℕ → Bool)
+    → ((r : ℕ) → passes r ≡ at_rank p ranks r) → (mass : ℕ) (factor at : ℕ → ℤ) → IsFactorOf hold ranks factor at
+    → (span : Option Span) → IsSpanOnRanks passes factor mass span → IsSpanOfList (map (λ q. pos mass *ℤ at q) (filter p (range_with_len 0 (length hold.positions)))) span
+span-on-ranks hold ranks arranged p known passes same mass factor at factors None none = no-span hold ranks arranged p known passes same (λ q. pos mass *ℤ at q) none
+span-on-ranks hold ranks arranged p known passes same mass factor at factors (Some e) span = some-span hold ranks arranged p known passes same mass factor at factors e span
+
+-- a test of a position, asked of its rank
+pub at-its-rank : (test : ℕ → Bool) (hold : Layout) (ranks : List Ranked) (r q : ℕ) → slice_get ranks r ≡ Some (ranked_of hold q) → at_rank test ranks r ≡ test q
+at-its-rank test hold ranks r q there = rw there refl
+
+-- The first and the last of a set ---------------------------------------------------------------
+
+-- the first rank of a set has the least influence, and the last the greatest
+pub first-least : (ranks : List Ranked) → AreRising ranks → (passes : ℕ → Bool) → ((r : ℕ) → passes r ≡ true → r < length ranks) → (d : Ranked) (o : Option ℕ)
+    → MatchOption o ((r : ℕ) → passes r ≡ false) (λ least. (least < 64) × (passes least ≡ true) × ((r : ℕ) → passes r ≡ true → least ≤ r))
+    → MatchOption o ((r : ℕ) → passes r ≡ false) (λ least. (least < 64) × (passes least ≡ true) × ((r : ℕ) → passes r ≡ true → (get_or ranks least d).0 ≤ℤ (get_or ranks r d).0))
+first-least ranks rising passes known d None none = none
+first-least ranks rising passes known d (Some least) found = (found.0, found.1, λ r is. rising least r d (found.2 r is) (known r is))
+
+pub last-greatest : (ranks : List Ranked) → AreRising ranks → (passes : ℕ → Bool) → ((r : ℕ) → passes r ≡ true → r < length ranks) → (d : Ranked) (o : Option ℕ)
+    → MatchOption o ((r : ℕ) → passes r ≡ false) (λ greatest. (greatest < 64) × (passes greatest ≡ true) × ((r : ℕ) → passes r ≡ true → r ≤ greatest))
+    → MatchOption o ((r : ℕ) → passes r ≡ false) (λ greatest. (greatest < 64) × (passes greatest ≡ true) × ((r : ℕ) → passes r ≡ true → (get_or ranks r d).0 ≤ℤ (get_or ranks greatest d).0))
+last-greatest ranks rising passes known d None none = none
+last-greatest ranks rising passes known d (Some greatest) found = (found.0, found.1, λ r is. rising r greatest d (found.2 r is) (known greatest found.1))

@@ -1,9 +1,5 @@
 pub mod Placing
-pub mod Rules
-pub mod Reach
-pub mod Choices
 pub mod Limits
-pub mod Bands
 pub mod Sets
 pub mod Arrangement
 pub mod Tables

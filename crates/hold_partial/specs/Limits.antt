@@ -8,8 +8,8 @@ use Rattle.hold_limits.specs.Layout.{Layout}
 use Rattle.hold_limits.specs.Problem.{Problem}
 use Rattle.hold_limits.specs.Placement.{load_of}
 use Rattle.hold_parts.specs.Limits.{is_listed, is_counted}
-use Rattle.hold_partial.specs.declared.rule.RuleBroken.{RuleBroken}
-use Rattle.hold_partial.specs.declared.rule.RuleBroken.TheVariants as rule
+use Rattle.hold_reach.specs.declared.rule.RuleBroken.{RuleBroken}
+use Rattle.hold_reach.specs.declared.rule.RuleBroken.TheVariants as rule
 
 -- the limits of a hold in one list, the combined ones first: each as its positions and the mass that it allows
 abbrev pub Allowance : Type 0

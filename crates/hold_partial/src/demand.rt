@@ -4,15 +4,15 @@ ghost use Rattle.std.specs.Prelude.{◌≡◌, ℕ, length};
 ghost use Rattle.hold_limits.specs.Enumeration.{is_accepted};
 ghost use Rattle.hold_limits.specs.Faults.{IsLawfulHold};
 ghost use Rattle.hold_partial.specs.Arrangement.{IsByInfluence};
-ghost use Rattle.hold_partial.specs.Rules.{has_kind_at};
+ghost use Rattle.hold_reach.specs.Rules.{has_kind_at};
 ghost use Rattle.hold_partial.specs.Sets.{Stands};
-ghost use Rattle.hold_partial.specs.Tables.{IsDemand, AreDemands};
+ghost use Rattle.hold_partial.specs.Tables.{first_twin, IsDemand, AreDemands};
 
 use crate::arrangement::{Ranked, ranks_of};
 use crate::position_set::PositionSet;
-use crate::reference::accepts_kind_at;
 use arrayvec::ArrayVec;
 use hold_limits::{Hold, Item, Task};
+use hold_reach::reference::accepts_kind_at;
 use mass_units::Kg;
 
 /// A container, and the positions that it could stand on in an empty hold.
@@ -25,6 +25,8 @@ pub struct Demand {
     pub accepting: PositionSet,
     /// The positions that accept it, by their ranks in the order of influence.
     pub accepting_ranks: PositionSet,
+    /// Its class of twins: the rank of the first of them, which may be itself, in branch order.
+    pub twins: u8,
 }
 
 impl Default for Demand {
@@ -34,6 +36,7 @@ impl Default for Demand {
             of_kind: PositionSet::empty(),
             accepting: PositionSet::empty(),
             accepting_ranks: PositionSet::empty(),
+            twins: 0,
         }
     }
 }
@@ -62,16 +65,30 @@ fn accepting_positions(hold: &Hold, item: &Item) -> PositionSet
     set
 }
 
-fn demand_of(hold: &Hold, ranks: &[Ranked], item: &Item) -> Demand
-    requires { IsByInfluence hold.now ranks.now }
-    ensures { IsDemand hold.now ranks.now item.now result }
+fn first_twin(task: &Task, item: &Item) -> u8
+    ensures { result ≡ first_twin task.now item.now }
 {
+    let count = task.items().len();
+    for rank in 0..count {
+        if task.at_rank(rank).is_twin_of(item) {
+            return rank as u8;
+        }
+    }
+    count as u8
+}
+
+fn demand_of(task: &Task, ranks: &[Ranked], item: &Item) -> Demand
+    requires { IsByInfluence task.now.hold ranks.now }
+    ensures { IsDemand task.now ranks.now item.now result }
+{
+    let hold = task.hold();
     let accepting = accepting_positions(hold, item);
     Demand {
         mass: item.mass,
         of_kind: positions_of_kind(hold, item),
         accepting,
         accepting_ranks: ranks_of(accepting, ranks),
+        twins: first_twin(task, item),
     }
 }
 
@@ -82,7 +99,7 @@ pub fn demands_of(task: &Task, ranks: &[Ranked]) -> Demands
 {
     let mut demands = Demands::new();
     for rank in 0..task.items().len() {
-        demands.push(demand_of(task.hold(), ranks, task.at_rank(rank)));
+        demands.push(demand_of(task, ranks, task.at_rank(rank)));
     }
     demands
 }

@@ -5,10 +5,10 @@ ghost use Rattle.hold_limits.specs.Faults.{IsLawfulHold};
 ghost use Rattle.hold_partial.specs.Limits.{limits_of, limits_on, rule_at, AreLoads, AreAllowed};
 ghost use Rattle.hold_parts.specs.Limits.{is_limited, most_of};
 
-use crate::reference::load_loose;
-use crate::rule::RuleBroken;
 use arrayvec::ArrayVec;
 use hold_limits::{Hold, Limit, Task};
+use hold_reach::RuleBroken;
+use hold_reach::reference::load_loose;
 
 /// Places in the list of limits.
 pub type LimitList = ArrayVec<u8, 192>;

@@ -7,8 +7,7 @@ use Rattle.std.proofs.lemmas.Cmp.{nat_cmp_total, tied_itself}
 use Rattle.std.proofs.lemmas.List.{append_cancel_left}
 use Rattle.std.proofs.lemmas.List.Elements.{All-nil, All-cons, All-head, All-tail, All-append, All-weaker, All-contains, Contains-push}
 use Rattle.std.proofs.lemmas.List.Kept.{AllPairs-cons}
-use Rattle.std.specs.Prelude.{All, AllPairs, IfSome, IsSomeAnd, Result, Ok, Err, OnOk, OnErr}
-use Rattle.std.specs.Result.{is_ok}
+use Rattle.std.specs.Prelude.{slice_get, All, AllPairs, IfSome, IsSomeAnd}
 use Rattle.std.specs.Ordering.{ordering_then}
 use Rattle.std.specs.Cmp.Lexicographic.{slice_cmp}
 use Rattle.desk_base.specs.Lists.{Extends}
@@ -18,14 +17,19 @@ use Rattle.hold_limits.proofs.KeyOrder.{IsAtMost-refl, IsAtMost-trans, IsAtMost-
 use Rattle.desk_base.proofs.PairLemmas.{AllPairs-head, AllPairs-tail}
 use Rattle.hold_limits.proofs.SoundLemmas.{IsSound-extends, IsSound-within, Extends-next, Extends-shorter, Extends-whole}
 use Rattle.hold_partial.specs.Placing.{Placing, placing_of}
-use Rattle.hold_partial.specs.Reach.{IsViable, bound}
-use Rattle.hold_partial.proofs.ViableLemmas.{IsViable-front, IsAdmissible-from_viable, bound-most, bound-complete}
+use Rattle.hold_limits.specs.Twins.{IsRising}
+use Rattle.hold_limits.proofs.EnumerationLemmas.{best_exists}
+use Rattle.hold_limits.proofs.ExchangeLemmas.{best-rises}
+use Rattle.hold_parts.specs.declared.parts.Item.{Item}
+use Rattle.hold_limits.specs.BranchOrder.{ordered}
+use Rattle.hold_reach.specs.Reach.{IsViable, bound, falls}
+use Rattle.hold_reach.proofs.ViableLemmas.{IsRising-front, IsRising-next, IsViable-front, IsAdmissible-from_viable, bound-most, bound-complete}
 use Rattle.placer.specs.declared.progress.Found.{Found}
 use Rattle.placer.specs.declared.progress.Progress.{Progress}
 use Rattle.placer.specs.declared.answer.Answer.{Answer}
 use Rattle.placer.specs.declared.answer.Answer.TheVariants.{Best, NoneFits, Budget}
 use Rattle.placer.specs.Search.{HasNoPlacement, MoreViableThan, IfBest, IfNoneFits, IfBudget}
-use Rattle.placer.specs.Steps.{recorded_key, IsFound, IsRecorded, Beats, HasViable}
+use Rattle.placer.specs.Steps.{recorded_key, IsCandidate, IsFound, IsRecorded, Beats, HasViable}
 
 -- Keys ------------------------------------------------------------------------------------------
 
@@ -49,21 +53,23 @@ Beats-at_most None a b beats less = absurd beats
 Beats-at_most (Some found) a b beats less = IsAtMost-trans (recorded_key found) a b beats less
 
 -- what a viable prefix has as its bound
-bound_below : (t : Problem) (front rest : List ℕ) (b : ℕ) → t.ideal_low ≤ℤ t.ideal_high → bound t front ≡ Some b → IsAdmissible t (front ++ rest) → b ≤ distance t (front ++ rest)
-bound_below t front rest b band is admissible =
-    subst (λ o. IsSomeAnd o (λ n. n ≤ distance t (front ++ rest))) is (bound-most t front rest band admissible)
+bound_below : (t : Problem) (front rest : List ℕ) (b : ℕ) → t.ideal_low ≤ℤ t.ideal_high → bound t front ≡ Some b → IsCandidate t (front ++ rest) → b ≤ distance t (front ++ rest)
+bound_below t front rest b band is candidate =
+    subst (λ o. IsSomeAnd o (λ n. n ≤ distance t (front ++ rest))) is (bound-most t front rest band candidate.admissible candidate.rising)
 
--- where the best so far beats a prefix with its bound, it beats every admissible path that extends the prefix
+-- where the best so far beats a prefix with its bound, it beats every candidate that extends the prefix
 pub skipped-covered : (t : Problem) (front : List ℕ) (b : ℕ) (best : Option Found) → t.ideal_low ≤ℤ t.ideal_high → bound t front ≡ Some b → Beats best (b, front)
-    → (path : List ℕ) → IsAdmissible t path → Extends front path → Beats best (key t path)
-skipped-covered t front b best band is beats path admissible extends =
-    let below : b ≤ distance t (front ++ extends.0) = bound_below t front extends.0 b band is (subst (IsAdmissible t) extends.1 admissible) in
+    → (path : List ℕ) → IsCandidate t path → Extends front path → Beats best (key t path)
+skipped-covered t front b best band is beats path candidate extends =
+    let below : b ≤ distance t (front ++ extends.0) = bound_below t front extends.0 b band is (subst (IsCandidate t) extends.1 candidate) in
     let extended : Beats best (key t (front ++ extends.0)) = Beats-at_most best (b, front) (key t (front ++ extends.0)) beats (at_most-extension b (distance t (front ++ extends.0)) front extends.0 below) in
     subst (λ p. Beats best (key t p)) (sym extends.1) extended
 
--- a prefix that is not viable begins no admissible path
-pub not_viable-covered : (t : Problem) (front : List ℕ) (best : Option Found) → (IsViable t front → ⊥) → (path : List ℕ) → IsAdmissible t path → Extends front path → Beats best (key t path)
-not_viable-covered t front best not path admissible extends = absurd (not (IsViable-front t front extends.0 (subst (IsAdmissible t) extends.1 admissible)))
+-- a prefix that is not viable begins no candidate
+pub not_viable-covered : (t : Problem) (front : List ℕ) (best : Option Found) → (IsViable t front → ⊥) → (path : List ℕ) → IsCandidate t path → Extends front path → Beats best (key t path)
+not_viable-covered t front best not path candidate extends =
+    let whole : IsCandidate t (front ++ extends.0) = subst (IsCandidate t) extends.1 candidate in
+    absurd (not (IsViable-front t front extends.0 whole.admissible whole.rising))
 
 -- a complete viable prefix is found with its bound as its distance
 pub IsFound-complete : (t : Problem) (found : Found) (b : ℕ) → IsViable t found.path.items → length found.path.items ≡ length t.items → bound t found.path.items ≡ Some b → found.distance ≡ b → IsFound t found
@@ -139,7 +145,7 @@ HasViable-join t A B C m n apart first second a b = record {
 pub record Explored (t : Problem) (Kind : List ℕ → Type 0) (before now : Progress) : Type 0 where
   pub found : IfSome now.best (IsFound t)
   pub kept : (k : Key) → Beats before.best k → Beats now.best k
-  pub covered : (path : List ℕ) → IsAdmissible t path → Kind path → Beats now.best (key t path)
+  pub covered : (path : List ℕ) → IsCandidate t path → Kind path → Beats now.best (key t path)
   pub left : now.left ≤ before.left
   pub counted : HasViable t Kind (before.left - now.left)
 
@@ -149,9 +155,9 @@ pub Explored-join : (t : Problem) (A B C : List ℕ → Type 0) (before mid now 
 Explored-join t A B C before mid now apart first second either a b = record {
   found = b.found;
   kept = λ k beats. b.kept k (a.kept k beats);
-  covered = λ path admissible kind. ⊎_elim
-      (λ in_a. b.kept (key t path) (a.covered path admissible in_a))
-      (λ in_b. b.covered path admissible in_b)
+  covered = λ path candidate kind. ⊎_elim
+      (λ in_a. b.kept (key t path) (a.covered path candidate in_a))
+      (λ in_b. b.covered path candidate in_b)
       (either path kind);
   left = omega (arith, a.left, b.left);
   counted =
@@ -213,16 +219,9 @@ next-visited t front p sound extends shorter =
 
 -- One position more, and back -------------------------------------------------------------------
 
--- a position that was not refused is the last number of the placement
-pub placed-longer : {T E : Type 0} (r : Result T E) (before now new : Placing) (number : ℕ) → before ≡ now → is_ok r ≡ true → OnOk r (new ≡ placing_of before.task (before.prefix ++ number ∷ []))
-    → new ≡ placing_of now.task (now.prefix ++ number ∷ [])
-placed-longer (Err e) before now new number same is placed = absurd (false≢true is)
-placed-longer (Ok x) before now new number same is placed = placed ∙ ap (λ (p : Placing). placing_of p.task (p.prefix ++ number ∷ [])) same
-
--- what holds after a refusal
-pub from_err : {T E : Type 0} (P : Type 0) (r : Result T E) → is_ok r ≡ false → OnErr r P → P
-from_err P (Ok x) is p = absurd (false≢true (sym is))
-from_err P (Err e) is p = p
+-- a position that was taken is the last number of the placement
+pub advanced : (before now new : Placing) (number : ℕ) → before ≡ now → new ≡ placing_of before.task (before.prefix ++ number ∷ []) → new ≡ placing_of now.task (now.prefix ++ number ∷ [])
+advanced before now new number same placed = placed ∙ ap (λ (p : Placing). placing_of p.task (p.prefix ++ number ∷ [])) same
 
 -- what has one number more is as before once that is taken off
 pub undone : (before after : Placing) (number last : ℕ) → placing_of before.task (before.prefix ++ number ∷ []) ≡ placing_of after.task (after.prefix ++ last ∷ []) → after ≡ before
@@ -240,14 +239,14 @@ undone before after number last is =
 
 -- a complete front begins no other path
 pub complete-covered : (t : Problem) (front : List ℕ) (best : Option Found) → length front ≡ length t.items → Beats best (key t front)
-    → (path : List ℕ) → IsAdmissible t path → Extends front path → Beats best (key t path)
-complete-covered t front best complete beats path admissible extends =
-    let whole : path ≡ front = Extends-whole front path extends (omega (arith, complete, admissible.complete)) in
+    → (path : List ℕ) → IsCandidate t path → Extends front path → Beats best (key t path)
+complete-covered t front best complete beats path candidate extends =
+    let whole : path ≡ front = Extends-whole front path extends (omega (arith, complete, candidate.admissible.complete)) in
     subst (λ p. Beats best (key t p)) (sym whole) beats
 
 -- a complete front that was found is all that begins with it
 pub found-covered : (t : Problem) (front : List ℕ) (found : Found) → length front ≡ length t.items → found.path.items ≡ front → IsFound t found
-    → (path : List ℕ) → IsAdmissible t path → Extends front path → Beats (Some found) (key t path)
+    → (path : List ℕ) → IsCandidate t path → Extends front path → Beats (Some found) (key t path)
 found-covered t front found complete is of_task =
     let own : recorded_key found ≡ key t found.path.items = ap (λ d. (d, found.path.items)) of_task.distance in
     let beats : Beats (Some found) (key t found.path.items) = subst (λ k. IsAtMost (recorded_key found) k) own (IsAtMost-refl (recorded_key found)) in
@@ -260,8 +259,8 @@ pub Explored-first : (t : Problem) (front : List ℕ) (before now : Progress) �
 Explored-first t front before now viable incomplete found same left = record {
   found = subst (λ best. IfSome best (IsFound t)) (sym same) found;
   kept = λ k beats. subst (λ best. Beats best k) (sym same) beats;
-  covered = λ path admissible visited. ⊎_elim
-      (λ is. absurd (incomplete (sym (ap length is) ∙ admissible.complete)))
+  covered = λ path candidate visited. ⊎_elim
+      (λ is. absurd (incomplete (sym (ap length is) ∙ candidate.admissible.complete)))
       (λ none. absurd (omega (arith, none.1)))
       visited;
   left = omega arith;
@@ -278,19 +277,29 @@ Explored-next t front number before mid now visited next = Explored-join t (IsVi
     (visited-cases front number)
     visited next
 
--- after one more number, with which the front is not sound
-pub Explored-refused : (t : Problem) (front : List ℕ) (number : ℕ) (before now : Progress)
-    → (IsSound t (front ++ number ∷ []) → ⊥) → Explored t (IsVisited front number) before now → Explored t (IsVisited front (number + 1)) before now
-Explored-refused t front number before now unsound visited = record {
+-- after one more number, with which the front begins no candidate
+pub Explored-passed : (t : Problem) (front : List ℕ) (number : ℕ) (before now : Progress)
+    → ((path : List ℕ) → IsCandidate t path → Extends (front ++ number ∷ []) path → ⊥) → Explored t (IsVisited front number) before now → Explored t (IsVisited front (number + 1)) before now
+Explored-passed t front number before now none visited = record {
   found = visited.found;
   kept = visited.kept;
-  covered = λ path admissible kind. ⊎_elim
-      (λ earlier. visited.covered path admissible earlier)
-      (λ extends. absurd (unsound (IsSound-extends t (front ++ number ∷ []) path extends admissible.sound)))
+  covered = λ path candidate kind. ⊎_elim
+      (λ earlier. visited.covered path candidate earlier)
+      (λ extends. absurd (none path candidate extends))
       (visited-cases front number path kind);
   left = visited.left;
   counted = HasViable-weaker t (IsVisited front number) (IsVisited front (number + 1)) (before.left - now.left) (visited-more front number) visited.counted;
 }
+
+-- a number that falls, or with which the front is not sound, begins no candidate
+pub falls-empty : (t : Problem) (front : List ℕ) (number : ℕ) (item : Item) → slice_get (ordered t.items) (length front) ≡ Some item → falls t front item number ≡ true
+    → (path : List ℕ) → IsCandidate t path → Extends (front ++ number ∷ []) path → ⊥
+falls-empty t front number item next is path candidate extends =
+    let rising : IsRising t (front ++ number ∷ []) = IsRising-front t (front ++ number ∷ []) extends.0 (subst (IsRising t) extends.1 candidate.rising) in
+    absurd (false≢true (sym ((IsRising-next t front item number (IsRising-front t front (number ∷ []) rising) next).1 rising) ∙ is))
+
+pub unsound-empty : (t : Problem) (front : List ℕ) (number : ℕ) → (IsSound t (front ++ number ∷ []) → ⊥) → (path : List ℕ) → IsCandidate t path → Extends (front ++ number ∷ []) path → ⊥
+unsound-empty t front number unsound path candidate extends = unsound (IsSound-extends t (front ++ number ∷ []) path extends candidate.admissible.sound)
 
 -- after the last number
 pub Explored-last : (t : Problem) (front : List ℕ) (number : ℕ) (before now : Progress) → length t.hold.positions ≤ number → (length front ≡ length t.items → ⊥) → IsSound t front
@@ -298,9 +307,9 @@ pub Explored-last : (t : Problem) (front : List ℕ) (number : ℕ) (before now 
 Explored-last t front number before now all incomplete sound visited = record {
   found = visited.found;
   kept = visited.kept;
-  covered = λ path admissible extends.
-      let short : length front < length path = omega (arith, incomplete, sound.short, admissible.complete) in
-      visited.covered path admissible (visited-upto (next-visited t front path admissible.sound extends short));
+  covered = λ path candidate extends.
+      let short : length front < length path = omega (arith, incomplete, sound.short, candidate.admissible.complete) in
+      visited.covered path candidate (visited-upto (next-visited t front path candidate.admissible.sound extends short));
   left = visited.left;
   counted = HasViable-weaker t (IsVisited front number) (Extends front) (before.left - now.left) (visited-extends front number) visited.counted;
 }
@@ -340,23 +349,30 @@ pub record Answers (t : Problem) (result : Answer) : Type 0 where
   pub none : IfNoneFits result (HasNoPlacement t)
   pub spent : IfBudget result (λ n. ⊥)
 
+-- the best path is a candidate, so a path that beats all candidates beats all admissible paths
+all-beaten : (t : Problem) (best : Option Found) → ((path : List ℕ) → IsCandidate t path → Extends [] path → Beats best (key t path)) → (path : List ℕ) → IsAdmissible t path → Beats best (key t path)
+all-beaten t best covered path admissible =
+    let first = best_exists t path admissible in
+    let candidate : IsCandidate t first.0 = record { admissible = first.1.admissible; rising = best-rises t first.0 first.1 } in
+    Beats-at_most best (key t first.0) (key t path) (covered first.0 candidate (first.0, refl)) (first.1.least path admissible)
+
 pub Answers-recorded : (t : Problem) (best : Option Found) (result : Answer) → IfSome best (IsFound t)
-    → ((path : List ℕ) → IsAdmissible t path → Extends [] path → Beats best (key t path)) → IsRecorded best result → Answers t result
+    → ((path : List ℕ) → IsCandidate t path → Extends [] path → Beats best (key t path)) → IsRecorded best result → Answers t result
 Answers-recorded t None (Best path) found covered recorded = absurd recorded
 Answers-recorded t (Some one) (Best path) found covered recorded =
     let best : IsBest t one.path.items = record {
       admissible = found.admissible;
-      least = λ other admissible. subst (λ d. IsAtMost (d, one.path.items) (key t other)) found.distance (covered other admissible (other, refl));
+      least = λ other admissible. subst (λ d. IsAtMost (d, one.path.items) (key t other)) found.distance (all-beaten t (Some one) covered other admissible);
     } in
     record { best = subst (IsBest t) recorded best; none = tt; spent = tt }
-Answers-recorded t None NoneFits found covered recorded = record { best = tt; none = λ path admissible. covered path admissible (path, refl); spent = tt }
+Answers-recorded t None NoneFits found covered recorded = record { best = tt; none = λ path admissible. all-beaten t None covered path admissible; spent = tt }
 Answers-recorded t (Some one) NoneFits found covered recorded = absurd (cc)
 Answers-recorded t best (Budget n) found covered recorded = absurd recorded
 
 -- where it began with the empty prefix
 pub Answers-from_empty : (t : Problem) (partial : Placing) (best : Option Found) (result : Answer) → partial ≡ placing_of t [] → IfSome best (IsFound partial.task)
-    → ((path : List ℕ) → IsAdmissible partial.task path → Extends partial.prefix path → Beats best (key partial.task path)) → IsRecorded best result → Answers t result
+    → ((path : List ℕ) → IsCandidate partial.task path → Extends partial.prefix path → Beats best (key partial.task path)) → IsRecorded best result → Answers t result
 Answers-from_empty t partial best result empty found covered recorded = Answers-recorded t best result
     (subst (λ (p : Placing). IfSome best (IsFound p.task)) empty found)
-    (subst (λ (p : Placing). (path : List ℕ) → IsAdmissible p.task path → Extends p.prefix path → Beats best (key p.task path)) empty covered)
+    (subst (λ (p : Placing). (path : List ℕ) → IsCandidate p.task path → Extends p.prefix path → Beats best (key p.task path)) empty covered)
     recorded

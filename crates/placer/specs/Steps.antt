@@ -2,7 +2,8 @@
 use Rattle.std.specs.Prelude.{◌≡◌, ◌≢◌, ℕ, List, length, All, AllPairs, Option, IsSomeAnd, None}
 use Rattle.hold_limits.specs.Problem.{Problem}
 use Rattle.hold_limits.specs.Placement.{Key, IsAtMost, IsAdmissible, distance}
-use Rattle.hold_partial.specs.Reach.{IsViable}
+use Rattle.hold_limits.specs.Twins.{IsRising}
+use Rattle.hold_reach.specs.Reach.{IsViable}
 use Rattle.placer.specs.declared.progress.Found.{Found}
 use Rattle.placer.specs.declared.answer.Answer.{Answer}
 use Rattle.placer.specs.declared.answer.Answer.TheVariants.{Best, NoneFits, Budget}
@@ -15,6 +16,11 @@ recorded_key found = (found.distance, found.path.items)
 pub record IsFound (t : Problem) (found : Found) : Type 0 where
   pub admissible : IsAdmissible t found.path.items
   pub distance : found.distance ≡ distance t found.path.items
+
+-- an admissible path in which of any two twins the later in branch order has the greater number
+pub record IsCandidate (t : Problem) (path : List ℕ) : Type 0 where
+  pub admissible : IsAdmissible t path
+  pub rising : IsRising t path
 
 -- a path was found whose key is at most this one
 abbrev pub Beats : Option Found → Key → Type 0

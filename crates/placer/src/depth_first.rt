@@ -1,15 +1,18 @@
 //! The search for the best path: depth first through the viable prefixes of a task in path order, each of which
 //! counts against a budget.
 //!
-//! Every prefix of an admissible path is viable, so the search abandons a prefix as soon as it is not. No admissible
-//! path that extends a prefix has a smaller distance than its bound, and none comes before it in path order. So the
-//! search also skips a prefix whose bound and numbers are together no better than the best path so far.
+//! The best path is rising: of two containers of one kind and one mass the later in branch order has the greater
+//! number. So the search skips each position that falls below a placed twin. Every prefix of a rising admissible path
+//! is viable, so the search abandons a prefix as soon as it is not. No rising admissible path that extends a prefix has
+//! a smaller distance than its bound, and none comes before it in path order. So the search also skips a prefix whose
+//! bound and numbers are together no better than the best path so far.
 
-ghost use Rattle.std.specs.Prelude.{◌≡◌, ◌+◌, ◌-◌, ◌≤◌, false, IsOk, IsTrue, IfOk, IfSome, List, ℕ, length};
+ghost use Rattle.std.specs.Prelude.{◌≡◌, ◌+◌, ◌-◌, ◌<◌, ◌≤◌, ◌++◌, ◌∷◌, [], false, IsOk, IsTrue, IfOk, IfSome, List, ℕ, length};
 ghost use Rattle.desk_base.specs.Lists.{Extends};
-ghost use Rattle.hold_limits.specs.Placement.{Key, IsAdmissible, IsBest, key};
+ghost use Rattle.hold_limits.specs.Placement.{Key, IsBest, key};
+ghost use Rattle.hold_partial.specs.Placing.{placing_of};
 ghost use Rattle.placer.specs.Search.{HasNoPlacement, MoreViableThan, IfBest, IfNoneFits, IfBudget};
-ghost use Rattle.placer.specs.Steps.{IsFound, Beats, HasViable};
+ghost use Rattle.placer.specs.Steps.{IsCandidate, IsFound, Beats, HasViable};
 
 use crate::answer::Answer;
 use crate::progress::{Found, Progress, answer_of};
@@ -17,6 +20,19 @@ use desk_base::NoMemory;
 use hold_limits::Task;
 use hold_partial::Partial;
 use std::alloc::Global;
+
+/// Places the next container on the position, where that neither falls below a placed twin nor breaks a rule of the
+/// hold. True if it did.
+fn advances(partial: &mut Partial<'_>, number: u8) -> bool
+    requires { length partial.old.prefix < length partial.old.task.items }
+    ensures placed { IsTrue result
+        → partial.new ≡ placing_of partial.old.task (partial.old.prefix ++ number ∷ []) }
+    ensures same { result ≡ false → partial.new ≡ partial.old }
+    ensures empty { result ≡ false → (q : List ℕ) → IsCandidate partial.old.task q
+        → Extends (partial.old.prefix ++ number ∷ []) q → ⊥ }
+{
+    !partial.falls(number) && partial.try_place(number).is_ok()
+}
 
 /// Visits all viable prefixes that begin with this one, and keeps the best path. True if the budget was enough for
 /// that.
@@ -26,7 +42,7 @@ fn explore(partial: &mut Partial<'_>, progress: &mut Progress) -> bool
     ensures found { IfSome progress.new.best (IsFound partial.old.task) }
     ensures kept { (k : Key) → Beats progress.old.best k → Beats progress.new.best k }
     ensures covered { IsTrue result
-        → (q : List ℕ) → IsAdmissible partial.old.task q → Extends partial.old.prefix q
+        → (q : List ℕ) → IsCandidate partial.old.task q → Extends partial.old.prefix q
         → Beats progress.new.best (key partial.old.task q) }
     ensures left { progress.new.left ≤ progress.old.left }
     ensures counted { IsTrue result → HasViable partial.old.task (Extends partial.old.prefix)
@@ -51,7 +67,7 @@ fn explore(partial: &mut Partial<'_>, progress: &mut Progress) -> bool
     }
     let hold = task.hold();
     for number in 0..hold.position_count() {
-        if partial.try_place(number).is_ok() {
+        if advances(partial, number) {
             let within = explore(partial, progress);
             partial.undo();
             if !within {

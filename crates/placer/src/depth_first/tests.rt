@@ -5,8 +5,8 @@ ghost use Rattle.hold_parts.specs.Spellings.{IsKind};
 
 use super::*;
 use hold_limits::{
-    Combined, Cumulative, Fit, Hold, Item, Loose, Name, Path, Position, UldId, hold_index_of,
-    is_in_window, is_sound, outcome,
+    Combined, Cumulative, Fit, Hold, Item, Lateral, Loose, Name, Path, Position, UldId,
+    hold_index_of, is_in_window, is_sound, lateral_difference_of, outcome,
 };
 use mass_units::{Kg, Ticks};
 use std::test::Fail;
@@ -43,6 +43,9 @@ struct Case {
     cumulative: u32,
     // A loose load on the bulk position.
     loose: u32,
+    // The lateral limit, where there is one, and the positions with their sides.
+    lateral: Option<u32>,
+    sides: &'static [(u8, bool)],
     // The window and the ideal band.
     window: (i64, i64),
     ideal: (i64, i64),
@@ -76,12 +79,19 @@ fn hold(alloc: Global, case: &Case) -> Result<Hold, Fail> {
             most: most(case.cumulative)
         },
     ]?;
-    Ok(Hold::new(
+    let hold = Hold::new(
         positions,
         case.excludes.to_vec(alloc)?,
         combined,
         cumulative,
-    )?)
+    )?;
+    let Some(lateral) = case.lateral else {
+        return Ok(hold);
+    };
+    Ok(hold.with_lateral(Lateral {
+        most: most(lateral),
+        sides: case.sides.to_vec(alloc)?.into(),
+    })?)
 }
 
 fn task(alloc: Global, case: &Case) -> Result<Task, Fail> {
@@ -143,7 +153,10 @@ fn best_by_trial(alloc: Global, task: &Task) -> Result<Option<Vec<u8>>, Fail> {
             continue;
         }
         let path = Path::try_from(list.as_slice())?;
-        if is_in_window(task, hold_index_of(task, path.as_slice())) {
+        let difference = lateral_difference_of(task, path.as_slice());
+        if is_in_window(task, hold_index_of(task, path.as_slice()))
+            && task.hold().is_within_lateral(difference)
+        {
             let (_, distance) = outcome(task, &path);
             keys.push((distance, list))?;
         }
@@ -165,6 +178,9 @@ const MIDDLE: (i64, i64) = (5_000_000, 5_000_000);
 
 const FREE: u32 = 999_999_999;
 
+// Positions 0 and 3 on the right, 1 and 2 on the left.
+const SIDES: &[(u8, bool)] = &[(0, true), (1, false), (2, false), (3, true)];
+
 const WORKED: Case = Case {
     name: "the worked task",
     masses: &[1000, 800],
@@ -172,12 +188,47 @@ const WORKED: Case = Case {
     combined: FREE,
     cumulative: FREE,
     loose: 0,
+    lateral: None,
+    sides: SIDES,
     window: WIDE,
     ideal: MIDDLE,
 };
 
-const SMALL_TASKS: [Case; 12] = [
+const SMALL_TASKS: [Case; 18] = [
     WORKED,
+    Case {
+        name: "a lateral limit",
+        lateral: Some(500),
+        ..WORKED
+    },
+    Case {
+        name: "a lateral limit met exactly",
+        lateral: Some(200),
+        ..WORKED
+    },
+    Case {
+        name: "a lateral limit that no path keeps",
+        lateral: Some(199),
+        ..WORKED
+    },
+    Case {
+        name: "a loose load on the right",
+        lateral: Some(150),
+        loose: 50,
+        sides: &[(0, true), (1, false), (2, false), (3, true), (4, true)],
+        ..WORKED
+    },
+    Case {
+        name: "two twins",
+        masses: &[1000, 1000],
+        ..WORKED
+    },
+    Case {
+        name: "four twins, which can only stand in one order, with a lateral limit of nothing",
+        masses: &[500, 500, 500, 500],
+        lateral: Some(0),
+        ..WORKED
+    },
     Case {
         name: "an excluding pair",
         excludes: &[(1, 2)],
@@ -252,6 +303,22 @@ fn the_search_finds_what_a_trial_finds(rt: HostRuntime) -> Result<(), Fail> {
         assert_eq!(rt; best_path(&answer), best.as_deref(), "at {}", case.name);
         assert!(rt; !matches!(answer, Answer::Budget(_)), "at {}", case.name);
     }
+    Ok(())
+}
+
+// Two twins are tried in one order alone: without that, the two paths with equal numbers turned round would be visited
+// too.
+#[test]
+fn twins_are_tried_in_rising_order_alone(rt: HostRuntime) -> Result<(), Fail> {
+    let twins = Case {
+        masses: &[500, 500, 500, 500],
+        window: (0, 0),
+        ..WORKED
+    };
+    let task = task(rt.alloc(), &twins)?;
+    let answer = search(rt.alloc(), &task, 5)?;
+    assert_eq!(rt; best_path(&answer), Some(&[0u8, 1, 2, 3][..]));
+    assert!(rt; matches!(search(rt.alloc(), &task, 4)?, Answer::Budget(4)));
     Ok(())
 }
 

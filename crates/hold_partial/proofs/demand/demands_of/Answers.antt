@@ -2,7 +2,6 @@ use Rattle.std.proofs.Common.{◌≡◌, ℕ, ◌≤◌, length, Some, ap, sym, 
 use Rattle.std.specs.Prelude.{slice_get}
 use Rattle.hold_parts.specs.declared.parts.Item.{Item}
 use Rattle.hold_limits.specs.BranchOrder.{ordered}
-use Rattle.hold_limits.specs.Layout.{Layout}
 use Rattle.std.proofs.lemmas.Option.{slice_get_within}
 use Rattle.hold_limits.proofs.BranchOrderLemmas.{length-ordered}
 use Rattle.hold_limits.proofs.LawfulBounds.{lawful-bounds}
@@ -20,9 +19,8 @@ pub loop-rank-preserved : goal.loop-rank-preserved
 loop-rank-preserved c =
     let t = c.args.task.now in
     let ranks = c.args.ranks.now in
-    let P : ℕ → Demand → Type 0 = λ k demand. (item : Item) → slice_get (ordered t.items) k ≡ Some item → IsDemand t.hold ranks item demand in
-    let demand : IsDemand t.hold ranks c.at_rank.result.now c.demand_of.result = subst (λ (h : Layout). IsDemand h ranks c.at_rank.result.now c.demand_of.result) c.hold.ensures.value c.demand_of.ensures in
-    let here : P c.loop-rank.rank c.demand_of.result = λ item there. subst (λ (i : Item). IsDemand t.hold ranks i c.demand_of.result) (cc (sym c.at_rank.ensures.value ∙ there)) demand in
+    let P : ℕ → Demand → Type 0 = λ k demand. (item : Item) → slice_get (ordered t.items) k ≡ Some item → IsDemand t ranks item demand in
+    let here : P c.loop-rank.rank c.demand_of.result = λ item there. subst (λ (i : Item). IsDemand t ranks i c.demand_of.result) (cc (sym c.at_rank.ensures.value ∙ there)) c.demand_of.ensures in
     record {
       count = omega (arith, c.push.ensures.len, c.loop-rank.invariant.count);
       each = rw c.push.ensures.items (each-push P _ c.loop-rank.rank c.demand_of.result c.loop-rank.invariant.count c.loop-rank.invariant.each here);

@@ -9,5 +9,5 @@ use Rattle.hold_partial.proofs.demand.demands_of.Given as goal
 abbrev pub invariant-loop-rank : goal.invariant-loop-rank
 invariant-loop-rank l = record {
   count : length l.demands.items ≡ l.rank;
-  each : (k : ℕ) (d : Demand) → k < l.rank → (item : Item) → slice_get (ordered l.task.items) k ≡ Some item → IsDemand l.task.hold l.ranks item (slice_index_or l.demands.items k d);
+  each : (k : ℕ) (d : Demand) → k < l.rank → (item : Item) → slice_get (ordered l.task.items) k ≡ Some item → IsDemand l.task l.ranks item (slice_index_or l.demands.items k d);
 }

@@ -1,4 +1,4 @@
-use Rattle.std.proofs.Common.{◌≡◌, ◌||◌, ◌==◌, true, nat_lt, length, ◌∙◌, refl, arith}
+use Rattle.std.proofs.Common.{◌≡◌, ◌||◌, ◌==◌, true, nat_lt, nat_le, length, ◌∙◌, refl, arith}
 use Rattle.std.proofs.lemmas.Bool.Decides.{nat_tests}
 use Rattle.std.proofs.lemmas.Int.{ints}
 use Rattle.hold_limits.specs.Enumeration.{exclude}
@@ -12,7 +12,11 @@ returns c =
     let q = c.args.number in
     record {
       influence = omega (arith, ints);
+      side = omega (arith, ints);
+      rank = c.rank_of.ensures;
       excluding = c.excluding_positions.ensures;
-      blocked_ranks = λ r. c.ranks_of.ensures r ∙ at_rank-same hold c.args.ranks.now c.requires (has c.blocked_positions.result) (λ a. (q == a) || exclude hold q a)
+      blocked_ranks = λ r. c.ranks_of.ensures r ∙ at_rank-same hold c.args.ranks.now c.requires.arranged (has c.blocked_positions.result) (λ a. (q == a) || exclude hold q a)
           (λ a below. let inside : nat_lt a (length hold.positions) ≡ true = grind (arith, nat_tests) in c.blocked_positions.ensures.value a ∙ rw inside refl) r;
+      closed_ranks = λ r. c.ranks_of-2.ensures r ∙ at_rank-same hold c.args.ranks.now c.requires.arranged (has c.closed_positions.result) (λ a. nat_le a q)
+          (λ a below. let inside : nat_lt a (length hold.positions) ≡ true = grind (arith, nat_tests) in c.closed_positions.ensures.value a ∙ rw inside refl) r;
     }

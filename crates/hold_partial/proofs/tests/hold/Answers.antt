@@ -36,6 +36,7 @@ new-requires c =
           (All-from_recursion HasDigit five (a.ensures.compartment, (b.ensures.compartment, (d.ensures.compartment, (e.ensures.compartment, (f.ensures.compartment, tt))))));
       kinds = All-same HasKinds _ five are
           (All-from_recursion HasKinds five (a.ensures.kinds, (b.ensures.kinds, (d.ensures.kinds, (e.ensures.kinds, (f.ensures.kinds, tt))))));
-      combined = each-of_one (λ (limit : Combined). limit.most.0 ≤ 999999999) _ _ c.in_ok-combined.ensures.items (lit≤ tt);
+      combined = each-of_one (λ (limit : Combined). limit.most.0 ≤ 999999999) _ _ c.in_ok-combined.ensures.items c.most.ensures;
       cumulative = each-of_two (λ (limit : Cumulative). limit.most.0 ≤ 999999999) _ _ _ c.in_ok-cumulative.ensures.items (lit≤ tt) (lit≤ tt);
+      lateral = tt;
     }

@@ -1,18 +1,17 @@
-use Rattle.std.proofs.Common.{◌≡◌, ◌+◌, ◌-◌, ◌≤◌, List, ◌∷◌, [], ◌++◌, length, sym, ap, ap₂, ◌∙◌, refl, subst, arith, append-nil, length-append}
+use Rattle.std.proofs.Common.{◌≡◌, ℕ, ◌+◌, ◌-◌, ◌≤◌, List, ◌∷◌, [], ◌++◌, length, sym, ap, ap₂, ◌∙◌, refl, subst, arith, append-nil, length-append}
 use Rattle.std.proofs.lemmas.Bool.{false≢true}
 use Rattle.desk_base.specs.Lists.{Extends}
 use Rattle.std.specs.Prelude.{IfSome}
 use Rattle.hold_parts.specs.declared.parts.Item.{Item}
 use Rattle.hold_limits.specs.Layout.{Layout}
 use Rattle.hold_limits.specs.Problem.{Problem}
-use Rattle.hold_limits.specs.Placement.{IsSound}
 use Rattle.hold_partial.specs.Placing.{Placing}
-use Rattle.hold_partial.specs.Reach.{IsViable, bound}
-use Rattle.hold_partial.proofs.ViableLemmas.{band-in_order}
-use Rattle.placer.specs.Steps.{Beats, HasViable, IsFound, recorded_key}
-use Rattle.placer.proofs.SearchLemmas.{Explored, IsVisited, skipped-covered, not_viable-covered, IsFound-complete, Beats-better, found-covered, HasViable-one, HasViable-spent, Explored-first, Explored-next, Explored-refused, Explored-last, placed-longer, from_err, undone}
+use Rattle.hold_reach.specs.Reach.{IsViable, bound}
+use Rattle.hold_reach.proofs.ViableLemmas.{band-in_order}
+use Rattle.placer.specs.Steps.{IsCandidate, Beats, HasViable, IsFound, recorded_key}
+use Rattle.placer.proofs.SearchLemmas.{Explored, IsVisited, skipped-covered, not_viable-covered, IsFound-complete, Beats-better, found-covered, HasViable-one, HasViable-spent, Explored-first, Explored-next, Explored-passed, Explored-last, advanced, undone}
 use Rattle.placer.proofs.depth_first.+explore.Goals as goal
-use Rattle.placer.proofs.depth_first.+explore.Goals.{then-is_ok+else-not-within, else-is_ok}
+use Rattle.placer.proofs.depth_first.+explore.Goals.{then-advances+else-not-within, else-advances}
 
 -- how many containers there are, as the reader of the task tells it
 item_count : {items : List Item} {now task : Problem} → items ≡ now.items → now ≡ task → length items ≡ length task.items
@@ -86,11 +85,11 @@ pub explore-within-requires : goal.explore-within-requires
 explore-within-requires t c =
     let front = c.args.partial.now.prefix in
     let number = c.loop-number.number in
-    let placed = placed-longer c.try_place.result c.loop-number.partial c.args.partial.now c.try_place.new.self number c.loop-number.invariant.same (sym c.is_ok.ensures.value ∙ c.if-is_ok.true) c.try_place.ensures.placed in
+    let placed = advanced c.loop-number.partial c.args.partial.now c.advances.new.partial number c.loop-number.invariant.same (c.advances.ensures.placed c.if-advances.true) in
     let items = item_count c.items.ensures.value c.task-task.ensures.value in
     let incomplete : length front ≡ length c.args.partial.now.task.items → ⊥ = λ complete. c.if-prefix-items.false (ap length c.prefix-2.ensures.value ∙ complete ∙ sym items) in
-    let more : length c.try_place.new.self.prefix ≡ length (front ++ number ∷ []) = ap (λ (p : Placing). length p.prefix) placed in
-    let same : length c.try_place.new.self.task.items ≡ length c.args.partial.now.task.items = ap (λ (p : Placing). length p.task.items) placed in (
+    let more : length c.advances.new.partial.prefix ≡ length (front ++ number ∷ []) = ap (λ (p : Placing). length p.prefix) placed in
+    let same : length c.advances.new.partial.task.items ≡ length c.args.partial.now.task.items = ap (λ (p : Placing). length p.task.items) placed in (
       omega (arith, c.decreases, more, same, incomplete, length-append front (number ∷ []), c.in-Some.ensures.found.0.sound.short),
       subst (λ (p : Placing). IfSome c.loop-number.progress.best (IsFound p.task)) (sym placed) c.loop-number.invariant.visited.found,
     )
@@ -100,7 +99,7 @@ returns-then-not-within-clause-spent t c =
     let task = c.args.partial.now.task in
     let front = c.args.partial.now.prefix in
     let number = c.loop-number.number in
-    let placed = placed-longer c.try_place.result c.loop-number.partial c.args.partial.now c.try_place.new.self number c.loop-number.invariant.same (sym c.is_ok.ensures.value ∙ c.if-is_ok.true) c.try_place.ensures.placed in
+    let placed = advanced c.loop-number.partial c.args.partial.now c.advances.new.partial number c.loop-number.invariant.same (c.advances.ensures.placed c.if-advances.true) in
     let spent : HasViable task (Extends (front ++ number ∷ [])) (c.loop-number.progress.left + 1) =
     subst (λ (p : Placing). HasViable p.task (Extends p.prefix) (c.loop-number.progress.left + 1)) placed (c.if-not-within.ensures.spent refl) in
     λ _. HasViable-spent task front number c.args.progress.now c.loop-number.progress c.loop-number.invariant.visited spent
@@ -111,10 +110,10 @@ loop-number-preserved t c =
     let front = c.args.partial.now.prefix in
     let before = c.args.progress.now in
     let number = c.loop-number.number in
-    elim c.if-is_ok.branch [
-      | then-is_ok+else-not-within w ↦
-          let placed = placed-longer c.try_place.result c.loop-number.partial c.args.partial.now c.try_place.new.self number c.loop-number.invariant.same (sym c.is_ok.ensures.value ∙ w.if-is_ok.true) c.try_place.ensures.placed in
-          let here : Explored c.try_place.new.self.task (Extends c.try_place.new.self.prefix) c.loop-number.progress w.explore-within.new.progress = record {
+    elim c.if-advances.branch [
+      | then-advances+else-not-within w ↦
+          let placed = advanced c.loop-number.partial c.args.partial.now c.advances.new.partial number c.loop-number.invariant.same (c.advances.ensures.placed w.if-advances.true) in
+          let here : Explored c.advances.new.partial.task (Extends c.advances.new.partial.prefix) c.loop-number.progress w.explore-within.new.progress = record {
             found = w.if-not-within.ensures.found;
             kept = w.if-not-within.ensures.kept;
             covered = w.if-not-within.ensures.covered refl;
@@ -128,15 +127,13 @@ loop-number-preserved t c =
             visited = subst (λ now. Explored task (IsVisited front (number + 1)) before now) (sym w.progress-is)
                 (Explored-next task front number before c.loop-number.progress w.explore-within.new.progress c.loop-number.invariant.visited next);
           }
-      | else-is_ok w ↦
-          let refused = sym c.is_ok.ensures.value ∙ w.if-is_ok.false in
-          let unsound : IsSound task (front ++ number ∷ []) → ⊥ = λ sound.
-          let ok = c.try_place.ensures.sound.1 (subst (λ (p : Placing). IsSound p.task (p.prefix ++ number ∷ [])) (sym c.loop-number.invariant.same) sound) in
-          absurd (false≢true (sym refused ∙ ok)) in
+      | else-advances w ↦
+          let empty : (path : List ℕ) → IsCandidate task path → Extends (front ++ number ∷ []) path → ⊥ =
+          subst (λ (p : Placing). (path : List ℕ) → IsCandidate p.task path → Extends (p.prefix ++ number ∷ []) path → ⊥) c.loop-number.invariant.same (c.advances.ensures.empty w.if-advances.false) in
           record {
-            same = w.partial-is ∙ from_err (c.try_place.new.self ≡ c.loop-number.partial) c.try_place.result refused c.try_place.ensures.unchanged ∙ c.loop-number.invariant.same;
+            same = w.partial-is ∙ c.advances.ensures.same w.if-advances.false ∙ c.loop-number.invariant.same;
             visited = subst (λ now. Explored task (IsVisited front (number + 1)) before now) (sym w.progress-is)
-                (Explored-refused task front number before c.loop-number.progress unsound c.loop-number.invariant.visited);
+                (Explored-passed task front number before c.loop-number.progress empty c.loop-number.invariant.visited);
           }
     ]
 

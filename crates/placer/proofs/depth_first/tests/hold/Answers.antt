@@ -35,4 +35,5 @@ new-requires c =
           (All-from_recursion HasKinds five (a.ensures.kinds, (b.ensures.kinds, (d.ensures.kinds, (e.ensures.kinds, (f.ensures.kinds, tt))))));
       combined = All-one (λ (limit : Combined). limit.most.0 ≤ 999999999) _ _ c.in_ok-combined.ensures.items c.most.ensures;
       cumulative = All-one (λ (limit : Cumulative). limit.most.0 ≤ 999999999) _ _ c.in_ok-cumulative.ensures.items c.most-2.ensures;
+      lateral = tt;
     }

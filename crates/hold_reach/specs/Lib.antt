@@ -1,0 +1,4 @@
+pub mod Rules
+pub mod Reach
+pub mod Choices
+pub mod Extents
