@@ -1,5 +1,5 @@
 -- position numbers as bytes change no answer
-use Rattle.std.proofs.Common.{◌≡◌, ⊎_elim, ℕ, ◌≤◌, true, false, Bool, ◌||◌, nat_lt, List, [], ◌∷◌, length, map, refl, sym, ◌∙◌, ap, subst, arith, All, Result, Ok, Err, Option, Some, None, IfOk, IfErr, MatchResult}
+use Rattle.std.proofs.Common.{◌≡◌, ⊎_elim, ℕ, ◌≤◌, true, false, Bool, ◌||◌, nat_lt, List, [], ◌∷◌, length, map, refl, sym, ◌∙◌, ap, subst, arith, All, Result, Ok, Err, Option, Some, None, option_map, IfSome, IfOk, IfErr, MatchResult}
 use Rattle.std.proofs.lemmas.Bool.{cases_Bool, ltb-false}
 use Rattle.std.specs.Bool.{◌==◌}
 use Rattle.std.specs.Option.{option_or}
@@ -8,13 +8,16 @@ use Rattle.std.proofs.lemmas.List.Elements.{All-head, All-tail, All-map}
 use Rattle.hold_parts.specs.declared.parts.Position.{Position}
 use Rattle.hold_parts.specs.declared.parts.Combined.{Combined}
 use Rattle.hold_parts.specs.declared.parts.Cumulative.{Cumulative}
+use Rattle.hold_parts.specs.declared.parts.Lateral.{Lateral}
 use Rattle.hold_limits.specs.declared.fault.HoldFault.{HoldFault}
 use Rattle.hold_limits.specs.declared.fault.HoldFault.TheVariants.{Positions}
 use Rattle.hold_limits.specs.Layout.{Layout}
 use Rattle.hold_limits.specs.Problem.{Problem}
 use Rattle.hold_limits.specs.Faults.{fault_if, hold_fault, task_fault, has_wrong_number, IsWellSpelled, IsLawful}
-use Rattle.problem_text.specs.TaskText.{IsNamed, IsSpelledExclude, IsSpelledCombined, IsSpelledCumulative, IsSpelledLoose, IsSpelled, Spells}
-use Rattle.problem_text.specs.PositionNumbers.{byte_of, keep_pair, keep_combined, keep_cumulative, keep_loose, keep_problem}
+use Rattle.problem_text.specs.TaskText.{IsSpelledExclude, IsSpelledCombined, IsSpelledCumulative, IsSpelledSide, IsSpelledLateral, IsSpelledLoose, IsSpelled, Spells}
+use Rattle.text_lines.specs.Names.{IsNamed}
+use Rattle.problem_text.specs.PositionNumbers.{keep_pair, keep_combined, keep_cumulative, keep_side, keep_lateral, keep_loose, keep_problem}
+use Rattle.text_lines.specs.Names.{byte_of}
 use Rattle.problem_text.specs.Refusals.{IsRefused}
 use Rattle.problem_text.specs.Refusals.IsRefused.{wrong_hold, wrong_task}
 use Rattle.problem_text.specs.Reading.{IsFaultOf}
@@ -32,6 +35,12 @@ map_kept keep P same (x ∷ xs) right =
 byte_is : (ps : List Position) (q : ℕ) → length ps ≤ 64 → IsNamed ps q → byte_of q ≡ q
 byte_is ps q few named = let known = named.known in omega (arith, known)
 
+kept_sides : (ps : List Position) → length ps ≤ 64 → (lateral : Option Lateral) → IfSome lateral (IsSpelledLateral ps) → option_map keep_lateral lateral ≡ lateral
+kept_sides ps few None s = refl
+kept_sides ps few (Some lateral) s =
+    let sides = map_kept keep_side (IsSpelledSide ps) (λ side named i. (byte_is ps side.0 few named i, side.1)) lateral.sides s.sides in
+    λ i. Some (record { most = lateral.most; sides = sides i })
+
 -- a hold with as many positions as it may have keeps its numbers
 kept_whole : (t : Problem) → IsSpelled t → length t.hold.positions ≤ 64 → keep_problem t ≡ t
 kept_whole t s few =
@@ -40,9 +49,10 @@ kept_whole t s few =
     let excludes = map_kept keep_pair (IsSpelledExclude ps) (λ pair r i. (byte pair.0 r.0 i, byte pair.1 r.1 i)) t.hold.excludes s.excludes in
     let combined = map_kept keep_combined (IsSpelledCombined ps) (λ limit r i. record { places = map_kept byte_of (IsNamed ps) byte limit.places r.places i; most = limit.most }) t.hold.combined s.combined in
     let cumulative = map_kept keep_cumulative (IsSpelledCumulative ps) (λ limit r i. record { forward = limit.forward; place = byte limit.place r.place i; most = limit.most }) t.hold.cumulative s.cumulative in
+    let lateral = kept_sides ps few t.hold.lateral s.lateral in
     let loose = map_kept keep_loose (IsSpelledLoose ps) (λ load r i. record { position = byte load.position r.position i; mass = load.mass }) t.loose s.loose in
     λ i. record {
-      hold = record { positions = ps; excludes = excludes i; combined = combined i; cumulative = cumulative i };
+      hold = record { positions = ps; excludes = excludes i; combined = combined i; cumulative = cumulative i; lateral = lateral i };
       items = t.items;
       loose = loose i;
       base = t.base;
@@ -76,12 +86,17 @@ kept_fault t s =
     (ap (λ (x : Problem). hold_fault x.hold) same, λ none. same))
     (cases_Bool (nat_lt 64 (length t.hold.positions)))
 
+most_kept : (ps : List Position) (lateral : Option Lateral) → IfSome lateral (IsSpelledLateral ps) → IfSome (option_map keep_lateral lateral) (λ (limit : Lateral). limit.most.0 ≤ 999999999)
+most_kept ps None s = tt
+most_kept ps (Some lateral) s = let most = s.most in omega (arith, most)
+
 pub well_spelled : (t : Problem) → IsSpelled t → IsWellSpelled (keep_problem t).hold
 well_spelled t s = record {
   compartments = λ k d l. (s.positions k d l).compartment;
   kinds = λ k d l. (s.positions k d l).kinds;
   combined = All-map (λ (limit : Combined). limit.most.0 ≤ 999999999) keep_combined t.hold.combined (λ k d l. let most = (s.combined k d l).most in omega (arith, most));
   cumulative = All-map (λ (limit : Cumulative). limit.most.0 ≤ 999999999) keep_cumulative t.hold.cumulative (λ k d l. let most = (s.cumulative k d l).most in omega (arith, most));
+  lateral = most_kept t.hold.positions t.hold.lateral s.lateral;
 }
 
 -- ---- the result of the reader

@@ -1,12 +1,10 @@
-pub mod CutLemmas
 pub mod WordLemmas
-pub mod NameLemmas
-pub mod RunLemmas
 pub mod PositionLemmas
-pub mod SectionLemmas
 pub mod LimitLemmas
 pub mod LineLemmas
+pub mod LineKinds
 pub mod TaskLemmas
+pub mod TaskGrammar
 pub mod RefusalLemmas
 pub mod ReadLemmas
 pub mod KeepLemmas

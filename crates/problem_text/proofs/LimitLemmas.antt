@@ -8,14 +8,16 @@ use Rattle.hold_parts.specs.declared.parts.Position.{Position}
 use Rattle.hold_parts.specs.declared.parts.Combined.{Combined}
 use Rattle.hold_parts.specs.declared.parts.Cumulative.{Cumulative}
 use Rattle.hold_parts.specs.declared.parts.Loose.{Loose}
-use Rattle.problem_text.specs.Cuts.{Avoids}
-use Rattle.problem_text.specs.WordRuns.{run_text, name_text}
-use Rattle.problem_text.specs.TaskText.{line_of, side_word, exclude_line, combined_line, cumulative_line, loose_line, IsNamed, IsSpelledExclude, IsSpelledCombined, IsSpelledCumulative, IsSpelledLoose}
+use Rattle.text_lines.specs.Cuts.{Avoids}
+use Rattle.text_lines.specs.WordRuns.{run_text, name_text}
+use Rattle.problem_text.specs.TaskText.{end_word, side_word, exclude_line, combined_line, cumulative_line, side_line, loose_line, IsSpelledExclude, IsSpelledCombined, IsSpelledCumulative, IsSpelledSide, IsSpelledLoose}
+use Rattle.text_lines.specs.Names.{IsNamed}
+use Rattle.text_lines.specs.Lines.{line_of}
 use Rattle.hold_limits.specs.Layout.{name_at}
-use Rattle.problem_text.proofs.CutLemmas.{cut_once, split_once_again}
-use Rattle.problem_text.proofs.WordLemmas.{avoids-append, avoids-spaced, plain_word}
-use Rattle.problem_text.proofs.NameLemmas.{name_at-avoids, named_once}
-use Rattle.problem_text.proofs.RunLemmas.{AreRead, run_text-begins, run_once}
+use Rattle.text_lines.proofs.CutLemmas.{cut_once, split_once_again}
+use Rattle.text_lines.proofs.WordLemmas.{avoids-append, avoids-spaced, plain_word}
+use Rattle.text_lines.proofs.NameLemmas.{name_at-avoids, named_once}
+use Rattle.text_lines.proofs.RunLemmas.{AreRead, run_text-begins, run_once}
 
 -- the names of the positions do not contain the byte
 abbrev pub AreClear : ℕ → List Position → Type 0
@@ -84,34 +86,57 @@ exclude_once ps clear a b s t e =
 
 -- ---- a cumulative line
 
-side_without_space : (forward : Bool) → Avoids 32 (side_word forward)
-side_without_space true = plain_word 32 (codes "forward") refl
-side_without_space false = plain_word 32 (codes "aft") refl
+end_without_space : (forward : Bool) → Avoids 32 (end_word forward)
+end_without_space true = plain_word 32 (codes "forward") refl
+end_without_space false = plain_word 32 (codes "aft") refl
 
-side_without_end : (forward : Bool) → Avoids 10 (side_word forward)
-side_without_end true = plain_word 10 (codes "forward") refl
-side_without_end false = plain_word 10 (codes "aft") refl
+end_without_feed : (forward : Bool) → Avoids 10 (end_word forward)
+end_without_feed true = plain_word 10 (codes "forward") refl
+end_without_feed false = plain_word 10 (codes "aft") refl
 
-side_once : (a b : Bool) → side_word a ≡ side_word b → a ≡ b
-side_once true true e = refl
-side_once true false e = absurd (cc)
-side_once false true e = absurd (cc)
-side_once false false e = refl
+end_once : (a b : Bool) → end_word a ≡ end_word b → a ≡ b
+end_once true true e = refl
+end_once true false e = absurd (cc)
+end_once false true e = absurd (cc)
+end_once false false e = refl
 
 pub cumulative_avoids : (ps : List Position) → AreClear 10 ps → (limit : Cumulative) → IsSpelledCumulative ps limit → Avoids 10 (cumulative_line ps limit)
 cumulative_avoids ps clear limit s =
     let end = avoids-spaced 10 (name_at ps limit.place) (number_text limit.most.0) refl (name_at-avoids 10 ps limit.place clear s.place.known) (number_text-avoids 10 limit.most.0 (lit< tt)) in
-    let words = avoids-spaced 10 (side_word limit.forward) (name_at ps limit.place ++ 32 ∷ number_text limit.most.0) refl (side_without_end limit.forward) end in
+    let words = avoids-spaced 10 (end_word limit.forward) (name_at ps limit.place ++ 32 ∷ number_text limit.most.0) refl (end_without_feed limit.forward) end in
     avoids-append 10 (codes "cumulative ") _ (plain_word 10 (codes "cumulative ") refl) words
 
 pub cumulative_once : (ps : List Position) → AreClear 32 ps → (a b : Cumulative) → IsSpelledCumulative ps a → IsSpelledCumulative ps b → cumulative_line ps a ≡ cumulative_line ps b → a ≡ b
 cumulative_once ps clear a b s t e =
-    let sides = split_once_again 32 (side_word a.forward) (name_at ps a.place ++ 32 ∷ number_text a.most.0) (side_word b.forward) (name_at ps b.place ++ 32 ∷ number_text b.most.0) (side_without_space a.forward) (side_without_space b.forward) (append_cancel_left (codes "cumulative ") _ _ e) in
+    let sides = split_once_again 32 (end_word a.forward) (name_at ps a.place ++ 32 ∷ number_text a.most.0) (end_word b.forward) (name_at ps b.place ++ 32 ∷ number_text b.most.0) (end_without_space a.forward) (end_without_space b.forward) (append_cancel_left (codes "cumulative ") _ _ e) in
     let names = split_once_again 32 (name_at ps a.place) (number_text a.most.0) (name_at ps b.place) (number_text b.most.0) (name_at-avoids 32 ps a.place clear s.place.known) (name_at-avoids 32 ps b.place clear t.place.known) sides.1 in
-    let forward = side_once a.forward b.forward sides.0 in
+    let forward = end_once a.forward b.forward sides.0 in
     let place = named_once ps a.place b.place s.place t.place names.0 in
     let most = number_text-injective a.most.0 b.most.0 names.1 in
     λ i. record { forward = forward i; place = place i; most = record { 0 = most i } }
+
+-- ---- a side line
+
+side_without_feed : (right : Bool) → Avoids 10 (side_word right)
+side_without_feed true = plain_word 10 (codes "right") refl
+side_without_feed false = plain_word 10 (codes "left") refl
+
+side_word_once : (a b : Bool) → side_word a ≡ side_word b → a ≡ b
+side_word_once true true e = refl
+side_word_once true false e = absurd (cc)
+side_word_once false true e = absurd (cc)
+side_word_once false false e = refl
+
+pub side_avoids : (ps : List Position) → AreClear 10 ps → (side : ℕ × Bool) → IsSpelledSide ps side → Avoids 10 (side_line ps side)
+side_avoids ps clear side s =
+    avoids-append 10 (codes "side ") _ (plain_word 10 (codes "side ") refl) (avoids-spaced 10 (name_at ps side.0) (side_word side.1) refl (name_at-avoids 10 ps side.0 clear s.known) (side_without_feed side.1))
+
+pub side_once : (ps : List Position) → AreClear 32 ps → (a b : ℕ × Bool) → IsSpelledSide ps a → IsSpelledSide ps b → side_line ps a ≡ side_line ps b → a ≡ b
+side_once ps clear a b s t e =
+    let parts = split_once_again 32 (name_at ps a.0) (side_word a.1) (name_at ps b.0) (side_word b.1) (name_at-avoids 32 ps a.0 clear s.known) (name_at-avoids 32 ps b.0 clear t.known) (append_cancel_left (codes "side ") _ _ e) in
+    let position = named_once ps a.0 b.0 s t parts.0 in
+    let right = side_word_once a.1 b.1 parts.1 in
+    λ i. (position i, right i)
 
 -- ---- a loose line
 

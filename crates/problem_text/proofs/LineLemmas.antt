@@ -1,13 +1,20 @@
 -- lines that name no position
-use Rattle.std.proofs.Common.{◌≡◌, ℤ, ◌++◌, ◌∷◌, refl, codes, lit<}
+use Rattle.std.proofs.Common.{◌≡◌, ℕ, ℤ, ◌++◌, ◌∷◌, refl, codes, lit<}
 use Rattle.std.proofs.lemmas.List.{append_cancel_left}
 use Rattle.mass_units.specs.Spelling.{number_text, index_text}
 use Rattle.mass_units.proofs.SpellingLemmas.{number_text-avoids, number_text-injective, index_text-avoids, index_text-injective}
 use Rattle.hold_parts.specs.declared.parts.Item.{Item}
-use Rattle.problem_text.specs.Cuts.{Avoids}
-use Rattle.problem_text.specs.TaskText.{item_line, base_line, window_line, ideal_line, IsSpelledItem}
-use Rattle.problem_text.proofs.CutLemmas.{split_once_again}
-use Rattle.problem_text.proofs.WordLemmas.{id_avoids, avoids-append, avoids-spaced, plain_word}
+use Rattle.text_lines.specs.Cuts.{Avoids}
+use Rattle.problem_text.specs.TaskText.{lateral_line, item_line, base_line, window_line, ideal_line, IsSpelledItem}
+use Rattle.text_lines.proofs.CutLemmas.{split_once_again}
+use Rattle.problem_text.proofs.WordLemmas.{id_avoids}
+use Rattle.text_lines.proofs.WordLemmas.{avoids-append, avoids-spaced, plain_word}
+
+pub lateral_avoids : (most : ℕ) → Avoids 10 (lateral_line most)
+lateral_avoids most = avoids-append 10 (codes "lateral ") (number_text most) (plain_word 10 (codes "lateral ") refl) (number_text-avoids 10 most (lit< tt))
+
+pub lateral_once : (a b : ℕ) → lateral_line a ≡ lateral_line b → a ≡ b
+lateral_once a b e = number_text-injective a b (append_cancel_left (codes "lateral ") _ _ e)
 
 pub item_avoids : (x : Item) → IsSpelledItem x → Avoids 10 (item_line x)
 item_avoids x s =

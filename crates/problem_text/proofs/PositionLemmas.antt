@@ -7,12 +7,15 @@ use Rattle.mass_units.proofs.SpellingLemmas.{number_text-avoids, signed_text-avo
 use Rattle.hold_parts.specs.declared.lists.Fit.{Fit}
 use Rattle.hold_parts.specs.declared.parts.Position.{Position}
 use Rattle.hold_parts.specs.Spellings.{IsName}
-use Rattle.problem_text.specs.TaskText.{line_of, fit_words, position_word, position_line, NamesKindsUnlessBulk, IsSpelledPosition}
-use Rattle.problem_text.specs.Cuts.{Avoids, IsCutAt}
-use Rattle.problem_text.specs.WordRuns.{run_text, fit_text, IsSpelledFit}
-use Rattle.problem_text.proofs.CutLemmas.{cut_once, split_once_again}
-use Rattle.problem_text.proofs.WordLemmas.{name_avoids, kind_avoids, avoids-append, avoids-spaced, plain_word}
-use Rattle.problem_text.proofs.RunLemmas.{AreRead, run_text-begins, run_once}
+use Rattle.problem_text.specs.TaskText.{fit_words, position_word, position_line, NamesKindsUnlessBulk, IsSpelledPosition}
+use Rattle.text_lines.specs.Lines.{line_of}
+use Rattle.text_lines.specs.Cuts.{Avoids, IsCutAt}
+use Rattle.problem_text.specs.WordRuns.{fit_text, IsSpelledFit}
+use Rattle.text_lines.specs.WordRuns.{run_text}
+use Rattle.text_lines.proofs.CutLemmas.{cut_once, split_once_again}
+use Rattle.problem_text.proofs.WordLemmas.{name_avoids, kind_avoids}
+use Rattle.text_lines.proofs.WordLemmas.{avoids-append, avoids-spaced, plain_word}
+use Rattle.text_lines.proofs.RunLemmas.{AreRead, run_text-begins, run_once}
 
 -- one kind and mass, and what follows
 fit_once : (f g : Fit) (rest rest' : List ℕ) → IsSpelledFit f → IsSpelledFit g → IsCutAt 32 rest → IsCutAt 32 rest' → fit_text f ++ rest ≡ fit_text g ++ rest' → (f ≡ g) × (rest ≡ rest')

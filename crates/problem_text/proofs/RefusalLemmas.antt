@@ -1,24 +1,27 @@
 -- each text has at most one answer
-use Rattle.std.proofs.Common.{◌≡◌, ◌≢◌, ⊎_elim, ◌⊎◌, inl, inr, ℕ, ◌+◌, eqb, false, ◌++◌, ◌∷◌, List, [], length, map, refl, sym, ◌∙◌, ap, subst, All, codes, Some, None, lit<}
+use Rattle.std.proofs.Common.{◌≡◌, ◌≢◌, ⊎_elim, ◌⊎◌, inl, inr, ℕ, ◌+◌, eqb, false, ◌++◌, ◌∷◌, List, [], length, map, refl, sym, ◌∙◌, ap, subst, All, codes, Option, Some, None, IfSome, lit<}
 use Rattle.std.proofs.lemmas.Option.{none-some, same_Some}
 use Rattle.std.proofs.lemmas.List.{append_assoc, append-nil}
 use Rattle.std.proofs.lemmas.List.Elements.{All-head, All-tail, All-nil, All-cons, All-append, All-map, All-weaker, All-same}
 use Rattle.hold_limits.specs.Problem.{Problem}
+use Rattle.hold_parts.specs.declared.parts.Position.{Position}
+use Rattle.hold_parts.specs.declared.parts.Lateral.{Lateral}
 use Rattle.hold_limits.specs.Faults.{hold_fault, task_fault}
 use Rattle.hold_limits.specs.declared.fault.HoldFault.{HoldFault}
 use Rattle.hold_limits.specs.declared.fault.TaskFault.{TaskFault}
-use Rattle.problem_text.specs.Cuts.{Avoids}
-use Rattle.problem_text.specs.TaskText.{task_lines, text_of, position_line, exclude_line, combined_line, cumulative_line, item_line, loose_line, base_line, window_line, ideal_line, IsSpelledPosition, IsSpelledExclude, IsSpelledCombined, IsSpelledCumulative, IsSpelledItem, IsSpelledLoose, IsSpelled, Spells}
+use Rattle.text_lines.specs.Cuts.{Avoids}
+use Rattle.problem_text.specs.TaskText.{task_lines, position_line, exclude_line, combined_line, cumulative_line, side_line, lateral_line, header_line, lateral_lines, item_line, loose_line, base_line, window_line, ideal_line, IsSpelledPosition, IsSpelledExclude, IsSpelledCombined, IsSpelledCumulative, IsSpelledSide, IsSpelledLateral, IsSpelledItem, IsSpelledLoose, IsSpelled, Spells}
+use Rattle.text_lines.specs.Lines.{text_of}
 use Rattle.problem_text.specs.Refusals.{BeginTask, AreTask, IsRefused}
 use Rattle.problem_text.specs.Refusals.IsRefused.{wrong_line, more_bytes, early_end, wrong_hold, wrong_task, no_memory}
 use Rattle.problem_text.specs.declared.fault.TextFault.{TextFault}
 use Rattle.problem_text.specs.declared.fault.TextFault.TheVariants.{Line, NoEnd, Hold, Task, NoMemory}
-use Rattle.problem_text.proofs.WordLemmas.{plain_word}
-use Rattle.problem_text.proofs.CutLemmas.{split_once_again, has_mark}
+use Rattle.text_lines.proofs.WordLemmas.{plain_word}
+use Rattle.text_lines.proofs.CutLemmas.{split_once_again, has_mark}
 use Rattle.problem_text.proofs.PositionLemmas.{position_avoids}
-use Rattle.problem_text.proofs.LimitLemmas.{exclude_avoids, combined_avoids, cumulative_avoids, loose_avoids}
-use Rattle.problem_text.proofs.LineLemmas.{item_avoids, base_avoids, window_avoids, ideal_avoids}
-use Rattle.problem_text.proofs.TaskLemmas.{front, last, clear_names, task_once}
+use Rattle.problem_text.proofs.LimitLemmas.{exclude_avoids, combined_avoids, cumulative_avoids, side_avoids, loose_avoids, AreClear}
+use Rattle.problem_text.proofs.LineLemmas.{lateral_avoids, item_avoids, base_avoids, window_avoids, ideal_avoids}
+use Rattle.problem_text.proofs.TaskLemmas.{last, rest_of, after_items, after_lateral, after_cumulative, after_combined, after_excludes, after_positions, clear_names, task_lines-whole, task_once}
 
 -- ---- no line of a task contains the end of a line
 
@@ -28,29 +31,35 @@ AreLines lines = All (Avoids 10) lines
 of_section : {X : Type 0} (line : X → List ℕ) (IsRight : X → Type 0) → ((x : X) → IsRight x → Avoids 10 (line x)) → (xs : List X) → All IsRight xs → AreLines (map line xs)
 of_section line P avoids xs right = All-map (Avoids 10) line xs (All-weaker P (λ x. Avoids 10 (line x)) avoids xs right)
 
+lateral_lines-are : (ps : List Position) → AreClear 10 ps → (lateral : Option Lateral) → IfSome lateral (IsSpelledLateral ps) → AreLines (lateral_lines ps lateral)
+lateral_lines-are ps clear None s = All-nil (Avoids 10)
+lateral_lines-are ps clear (Some lateral) s =
+    let sides = of_section (side_line ps) (IsSpelledSide ps) (side_avoids ps clear) lateral.sides s.sides in
+    All-append (Avoids 10) (map (side_line ps) lateral.sides) (lateral_line lateral.most.0 ∷ []) sides (All-cons (Avoids 10) (lateral_line lateral.most.0) [] (lateral_avoids lateral.most.0) (All-nil (Avoids 10)))
+
+header_avoids : (lateral : Option Lateral) → Avoids 10 (header_line lateral)
+header_avoids None = plain_word 10 (codes "TASK 1") refl
+header_avoids (Some lateral) = plain_word 10 (codes "TASK 2") refl
+
 pub task_lines-are : (t : Problem) → IsSpelled t → AreLines (task_lines t)
 task_lines-are t s =
     let ps = t.hold.positions in
+    let r = rest_of t in
     let clear = clear_names 10 ps (lit< tt) s.positions in
     let join : (xs ys : List (List ℕ)) → AreLines xs → AreLines ys → AreLines (xs ++ ys) = All-append (Avoids 10) in
     let one : (x : List ℕ) (xs : List (List ℕ)) → Avoids 10 x → AreLines xs → AreLines (x ∷ xs) = All-cons (Avoids 10) in
-    let header : List (List ℕ) = codes "TASK 1" ∷ [] in
-    let l1 = header ++ map position_line ps in
-    let l2 = l1 ++ map (exclude_line ps) t.hold.excludes in
-    let l3 = l2 ++ map (combined_line ps) t.hold.combined in
-    let l4 = l3 ++ map (cumulative_line ps) t.hold.cumulative in
-    let l5 = l4 ++ map item_line t.items in
-    let none = All-nil (Avoids 10) in
-    let positions = join header (map position_line ps) (one (codes "TASK 1") [] (plain_word 10 (codes "TASK 1") refl) none) (of_section position_line IsSpelledPosition position_avoids ps s.positions) in
-    let excludes = join l1 (map (exclude_line ps) t.hold.excludes) positions (of_section (exclude_line ps) (IsSpelledExclude ps) (exclude_avoids ps clear) t.hold.excludes s.excludes) in
-    let combined = join l2 (map (combined_line ps) t.hold.combined) excludes (of_section (combined_line ps) (IsSpelledCombined ps) (combined_avoids ps clear) t.hold.combined s.combined) in
-    let cumulative = join l3 (map (cumulative_line ps) t.hold.cumulative) combined (of_section (cumulative_line ps) (IsSpelledCumulative ps) (cumulative_avoids ps clear) t.hold.cumulative s.cumulative) in
-    let items = join l4 (map item_line t.items) cumulative (of_section item_line IsSpelledItem item_avoids t.items s.items) in
-    let loose = join l5 (map (loose_line ps) t.loose) items (of_section (loose_line ps) (IsSpelledLoose ps) (loose_avoids ps clear) t.loose s.loose) in
-    let end = one (codes "END") [] (plain_word 10 (codes "END") refl) none in
+    let end = one (codes "END") [] (plain_word 10 (codes "END") refl) (All-nil (Avoids 10)) in
     let ideal = one (ideal_line t.ideal_low t.ideal_high) (codes "END" ∷ []) (ideal_avoids t.ideal_low t.ideal_high) end in
     let window = one (window_line t.low t.high) (ideal_line t.ideal_low t.ideal_high ∷ codes "END" ∷ []) (window_avoids t.low t.high) ideal in
-    join (front t) (last t) loose (one (base_line t.base) (window_line t.low t.high ∷ ideal_line t.ideal_low t.ideal_high ∷ codes "END" ∷ []) (base_avoids t.base) window)
+    let base = one (base_line t.base) (window_line t.low t.high ∷ ideal_line t.ideal_low t.ideal_high ∷ codes "END" ∷ []) (base_avoids t.base) window in
+    let loose = join (map (loose_line ps) t.loose) (last t) (of_section (loose_line ps) (IsSpelledLoose ps) (loose_avoids ps clear) t.loose s.loose) base in
+    let items = join (map item_line t.items) (after_items ps r (last t)) (of_section item_line IsSpelledItem item_avoids t.items s.items) loose in
+    let lateral = join (lateral_lines ps t.hold.lateral) (after_lateral ps r (last t)) (lateral_lines-are ps clear t.hold.lateral s.lateral) items in
+    let cumulative = join (map (cumulative_line ps) t.hold.cumulative) (after_cumulative ps r (last t)) (of_section (cumulative_line ps) (IsSpelledCumulative ps) (cumulative_avoids ps clear) t.hold.cumulative s.cumulative) lateral in
+    let combined = join (map (combined_line ps) t.hold.combined) (after_combined ps r (last t)) (of_section (combined_line ps) (IsSpelledCombined ps) (combined_avoids ps clear) t.hold.combined s.combined) cumulative in
+    let excludes = join (map (exclude_line ps) t.hold.excludes) (after_excludes ps r (last t)) (of_section (exclude_line ps) (IsSpelledExclude ps) (exclude_avoids ps clear) t.hold.excludes s.excludes) combined in
+    let positions = join (map position_line ps) (after_positions ps r (last t)) (of_section position_line IsSpelledPosition position_avoids ps s.positions) excludes in
+    All-same (Avoids 10) _ _ (task_lines-whole t) (one (header_line t.hold.lateral) (map position_line ps ++ after_positions ps r (last t)) (header_avoids t.hold.lateral) positions)
 
 -- the first lines of a task
 begin_lines : (lines : List (List ℕ)) → BeginTask lines → AreLines lines

@@ -9,13 +9,14 @@ use Rattle.hold_limits.specs.Layout.{layout_of}
 use Rattle.hold_limits.specs.Faults.{hold_fault, task_fault}
 use Rattle.hold_limits.specs.declared.fault.HoldFault.{HoldFault}
 use Rattle.hold_limits.specs.declared.fault.TaskFault.{TaskFault}
-use Rattle.problem_text.specs.Cuts.{Avoids}
-use Rattle.problem_text.specs.TaskText.{task_lines, text_of, IsSpelledPosition, IsSpelledExclude, IsSpelledCombined, IsSpelledCumulative, IsSpelledItem, IsSpelledLoose, Spells}
+use Rattle.text_lines.specs.Cuts.{Avoids}
+use Rattle.problem_text.specs.TaskText.{task_lines, IsSpelledPosition, IsSpelledExclude, IsSpelledCombined, IsSpelledCumulative, IsSpelledItem, IsSpelledLoose, Spells}
+use Rattle.text_lines.specs.Lines.{text_of}
 use Rattle.problem_text.specs.Refusals.{BeginTask, AreTask, IsRefused}
 use Rattle.problem_text.specs.Refusals.IsRefused.{wrong_line, more_bytes, early_end, wrong_hold, wrong_task}
 use Rattle.problem_text.specs.declared.fault.TextFault.{TextFault}
 use Rattle.problem_text.specs.declared.fault.TextFault.TheVariants.{Line, NoEnd, Hold, Task, NoMemory}
-use Rattle.problem_text.proofs.SectionLemmas.{text_of-append}
+use Rattle.text_lines.proofs.SectionLemmas.{text_of-append}
 
 -- ---- a text is its lines, and a rest that no line feed ends
 
@@ -91,6 +92,7 @@ no_lines-begin = record {
     excludes = All-nil (IsSpelledExclude []);
     combined = All-nil (IsSpelledCombined []);
     cumulative = All-nil (IsSpelledCumulative []);
+    lateral = tt;
     items = All-nil IsSpelledItem;
     loose = All-nil (IsSpelledLoose []);
     base = zero_index;

@@ -1,5 +1,5 @@
 -- a lawful task whose names and identities are spelled is in its spelling
-use Rattle.std.proofs.Common.{◌≡◌, ◌≢◌, ℕ, ◌<◌, ◌≤◌, ◌^◌, ℤ, Bool, true, false, List, [], length, take, get_or, Some, ap, sym, ◌∙◌, arith, unsigned_abs}
+use Rattle.std.proofs.Common.{◌≡◌, ◌≢◌, ℕ, ◌<◌, ◌≤◌, ◌^◌, ℤ, Bool, true, false, List, [], length, take, get_or, Option, Some, None, IfSome, ap, sym, ◌∙◌, arith, unsigned_abs}
 use Rattle.std.proofs.lemmas.List.{get_or-take, length-take}
 use Rattle.std.proofs.lemmas.List.Elements.{All-weaker}
 use Rattle.std.proofs.lemmas.Option.{slice_get-get_or}
@@ -8,13 +8,15 @@ use Rattle.std.specs.Prelude.{All, AllPairs, slice_get}
 use Rattle.mass_units.specs.Spelling.{IsNumber, IsSignedNumber, IsIndex}
 use Rattle.hold_parts.specs.declared.lists.Fit.{Fit}
 use Rattle.hold_parts.specs.declared.parts.Position.{Position}
+use Rattle.hold_parts.specs.declared.parts.Lateral.{Lateral}
 use Rattle.hold_parts.specs.declared.parts.Item.{Item}
 use Rattle.hold_limits.specs.Problem.{Problem}
 use Rattle.hold_parts.specs.Spellings.{IsName, IsUldId}
 use Rattle.hold_limits.specs.Faults.{IsLawful}
 use Rattle.hold_limits.specs.Bounds.{HasUpTo16Kinds, IsContainerMass}
 use Rattle.hold_limits.proofs.LawfulBounds.{hold-bounds, lawful-bounds}
-use Rattle.problem_text.specs.TaskText.{NamesKindsUnlessBulk, IsNamed, IsSpelled}
+use Rattle.problem_text.specs.TaskText.{NamesKindsUnlessBulk, IsSpelledLateral, IsSpelled}
+use Rattle.text_lines.specs.Names.{IsNamed}
 use Rattle.hold_limits.specs.Layout.{name_at}
 
 nine_digits : (n : ℕ) → n ≤ 999999999 → n < 10 ^ 9
@@ -45,6 +47,13 @@ first_named ps differ q known = record {
       differ k q d before known (sym (ap (λ (p : Position). p.name) earlier) ∙ same ∙ name);
 }
 
+lateral-spelled : (t : Problem) (lateral : Option Lateral) → ((q : ℕ) → q < length t.hold.positions → IsNamed t.hold.positions q) → All (λ (side : ℕ × Bool). side.0 < length t.hold.positions) (option_map_or (λ (l : Lateral). l.sides) lateral []) → IfSome lateral (λ (l : Lateral). l.most.0 ≤ 999999999) → IfSome lateral (IsSpelledLateral t.hold.positions)
+lateral-spelled t None named known most = tt
+lateral-spelled t (Some l) named known most = record {
+  sides = λ k d within. named (get_or l.sides k d).0 (known k d within);
+  most = nine_digits l.most.0 most;
+}
+
 pub lawful-spelled : (t : Problem) → IsLawful t → All (λ (q : Position). IsName q.name) t.hold.positions → All (λ (item : Item). IsUldId item.id) t.items → IsSpelled t
 lawful-spelled t lawful names ids =
     let of_hold = hold-bounds t.hold lawful.hold in
@@ -71,6 +80,7 @@ lawful-spelled t lawful names ids =
         place = named _ (of_hold.cumulative k d within);
         most = nine_digits _ (spelled.cumulative k d within);
       };
+      lateral = lateral-spelled t t.hold.lateral named of_hold.sides spelled.lateral;
       items = λ k d within. record { id = ids k d within; mass = number-small _ (of_task.item_masses k d within) };
       loose = λ k d within. record { position = named _ (of_task.loose_known k d within); mass = number-small _ (of_task.loose_masses k d within) };
       base = index-right t.base of_task.base;

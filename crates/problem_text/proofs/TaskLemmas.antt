@@ -1,32 +1,26 @@
 -- the lines of a task say its sections in one way only
-use Rattle.std.proofs.Common.{◌≡◌, ℕ, ◌<◌, Bool, true, false, cond, eqb, ◌++◌, ◌∷◌, List, [], map, refl, sym, ◌∙◌, ap, subst, arith, All, codes, lit<}
-use Rattle.std.proofs.lemmas.List.{append_assoc, append_cancel_left}
-use Rattle.std.proofs.lemmas.List.Elements.{All-head, All-tail, All-weaker}
+use Rattle.std.proofs.Common.{◌≡◌, ◌≢◌, ℕ, ◌<◌, ◌++◌, ◌∷◌, List, [], map, get_or, refl, sym, ◌∙◌, ap, subst, arith, All, Option, Some, None, IfSome, codes, lit<}
+use Rattle.std.proofs.lemmas.List.{append_assoc}
+use Rattle.std.proofs.lemmas.List.Elements.{All-weaker}
 use Rattle.hold_limits.specs.Problem.{Problem}
 use Rattle.hold_parts.specs.declared.parts.Position.{Position}
 use Rattle.hold_parts.specs.declared.parts.Combined.{Combined}
 use Rattle.hold_parts.specs.declared.parts.Cumulative.{Cumulative}
+use Rattle.hold_parts.specs.declared.parts.Lateral.{Lateral}
 use Rattle.hold_parts.specs.declared.parts.Item.{Item}
 use Rattle.hold_parts.specs.declared.parts.Loose.{Loose}
-use Rattle.problem_text.specs.TaskText.{task_lines, position_line, position_word, exclude_line, combined_line, cumulative_line, item_line, loose_line, base_line, window_line, ideal_line, IsSpelledPosition, IsSpelledExclude, IsSpelledCombined, IsSpelledCumulative, IsSpelledItem, IsSpelledLoose, IsSpelled}
-use Rattle.problem_text.specs.Cuts.{Avoids}
+use Rattle.problem_text.specs.TaskText.{task_lines, position_line, exclude_line, combined_line, cumulative_line, side_line, lateral_line, header_line, lateral_lines, item_line, loose_line, base_line, window_line, ideal_line, IsSpelledPosition, IsSpelledExclude, IsSpelledCombined, IsSpelledCumulative, IsSpelledSide, IsSpelledLateral, IsSpelledItem, IsSpelledLoose, IsSpelled}
+use Rattle.text_lines.specs.Cuts.{Avoids}
 use Rattle.problem_text.proofs.WordLemmas.{name_avoids}
-use Rattle.problem_text.proofs.LineLemmas.{item_once, base_once, window_once, ideal_once}
-use Rattle.problem_text.proofs.LimitLemmas.{AreClear, exclude_once, combined_once, cumulative_once, loose_once}
+use Rattle.problem_text.proofs.LineLemmas.{lateral_once, item_once, base_once, window_once, ideal_once}
+use Rattle.problem_text.proofs.LimitLemmas.{AreClear, exclude_once, combined_once, cumulative_once, side_once, loose_once}
 use Rattle.problem_text.proofs.PositionLemmas.{position_once}
+use Rattle.text_lines.proofs.RunOfLines.{section_once}
+use Rattle.problem_text.proofs.LineKinds.{Later, earlier, at_base, over_loose, over_items, at_lateral, over_sides, over_cumulative, over_combined, over_excludes, stops_positions, stops_excludes, stops_combined, stops_cumulative, stops_sides, stops_items, stops_loose}
 
 -- ---- the lines of a task, section by section
 
-abbrev pub front : Problem → List (List ℕ)
-front t =
-    (codes "TASK 1" ∷ [])
-    ++ map position_line t.hold.positions
-    ++ map (exclude_line t.hold.positions) t.hold.excludes
-    ++ map (combined_line t.hold.positions) t.hold.combined
-    ++ map (cumulative_line t.hold.positions) t.hold.cumulative
-    ++ map item_line t.items
-    ++ map (loose_line t.hold.positions) t.loose
-
+-- from the line of the base index on
 abbrev pub last : Problem → List (List ℕ)
 last t = base_line t.base ∷ window_line t.low t.high ∷ ideal_line t.ideal_low t.ideal_high ∷ codes "END" ∷ []
 
@@ -35,17 +29,28 @@ pub record Rest : Type 0 where
   pub excludes : List (ℕ × ℕ)
   pub combined : List Combined
   pub cumulative : List Cumulative
+  pub lateral : Option Lateral
   pub items : List Item
   pub loose : List Loose
 
 abbrev pub rest_of : Problem → Rest
-rest_of t = record { excludes = t.hold.excludes; combined = t.hold.combined; cumulative = t.hold.cumulative; items = t.items; loose = t.loose }
+rest_of t = record {
+  excludes = t.hold.excludes;
+  combined = t.hold.combined;
+  cumulative = t.hold.cumulative;
+  lateral = t.hold.lateral;
+  items = t.items;
+  loose = t.loose;
+}
 
 abbrev pub after_items : List Position → Rest → List (List ℕ) → List (List ℕ)
 after_items ps r lines = map (loose_line ps) r.loose ++ lines
 
+abbrev pub after_lateral : List Position → Rest → List (List ℕ) → List (List ℕ)
+after_lateral ps r lines = map item_line r.items ++ after_items ps r lines
+
 abbrev pub after_cumulative : List Position → Rest → List (List ℕ) → List (List ℕ)
-after_cumulative ps r lines = map item_line r.items ++ after_items ps r lines
+after_cumulative ps r lines = lateral_lines ps r.lateral ++ after_lateral ps r lines
 
 abbrev pub after_combined : List Position → Rest → List (List ℕ) → List (List ℕ)
 after_combined ps r lines = map (cumulative_line ps) r.cumulative ++ after_cumulative ps r lines
@@ -56,123 +61,96 @@ after_excludes ps r lines = map (combined_line ps) r.combined ++ after_combined 
 abbrev pub after_positions : List Position → Rest → List (List ℕ) → List (List ℕ)
 after_positions ps r lines = map (exclude_line ps) r.excludes ++ after_excludes ps r lines
 
-pub front-nested : (t : Problem) (lines : List (List ℕ)) → front t ++ lines ≡ codes "TASK 1" ∷ (map position_line t.hold.positions ++ after_positions t.hold.positions (rest_of t) lines)
-front-nested t lines = simp append_assoc
+task_lines-nested : (t : Problem) (more : List (List ℕ)) → task_lines t ++ more ≡ header_line t.hold.lateral ∷ (map position_line t.hold.positions ++ after_positions t.hold.positions (rest_of t) (last t ++ more))
+task_lines-nested t more = simp append_assoc
 
--- ---- a section ends where a line is none of its kind
+pub task_lines-whole : (t : Problem) → task_lines t ≡ header_line t.hold.lateral ∷ (map position_line t.hold.positions ++ after_positions t.hold.positions (rest_of t) (last t))
+task_lines-whole t = simp append_assoc
 
-abbrev pub Stops : {X : Type 0} → (X → List ℕ) → (X → Type 0) → List (List ℕ) → Type 0
-Stops {X} line IsRight lines = (x : X) (more : List (List ℕ)) → IsRight x → lines ≡ line x ∷ more → ⊥
+-- ---- the kinds of lines come in their order
 
-section_once : {X : Type 0} (line : X → List ℕ) (IsRight : X → Type 0) → ((x y : X) → IsRight x → IsRight y → line x ≡ line y → x ≡ y) → (xs ys : List X) (lines other : List (List ℕ)) → All IsRight xs → All IsRight ys → Stops line IsRight lines → Stops line IsRight other → map line xs ++ lines ≡ map line ys ++ other → (xs ≡ ys) × (lines ≡ other)
-section_once line P once [] [] lines other p q stop stop' e = (refl, e)
-section_once line P once [] (y ∷ ys) lines other p q stop stop' e = absurd (stop y (map line ys ++ other) (All-head P y ys q) e)
-section_once line P once (x ∷ xs) [] lines other p q stop stop' e = absurd (stop' x (map line xs ++ lines) (All-head P x xs p) (sym e))
-section_once line P once (x ∷ xs) (y ∷ ys) lines other p q stop stop' e =
-    let first : line x ≡ line y = cc in
-    let tails : map line xs ++ lines ≡ map line ys ++ other = cc in
-    let same = once x y (All-head P x xs p) (All-head P y ys q) first in
-    let again = section_once line P once xs ys lines other (All-tail P x xs p) (All-tail P y ys q) stop stop' tails in
-    (λ i. same i ∷ again.0 i, again.1)
+later_items : (ps : List Position) (r : Rest) (lines : List (List ℕ)) → Later 8 lines → Later 7 (after_items ps r lines)
+later_items ps r lines ends = over_loose ps r.loose lines ends
 
--- no section's kind of line comes next behind that section
-pub record StopsRest (ps : List Position) (r : Rest) (lines : List (List ℕ)) : Type 0 where
-  pub excludes : Stops (exclude_line ps) (IsSpelledExclude ps) (after_excludes ps r lines)
-  pub combined : Stops (combined_line ps) (IsSpelledCombined ps) (after_combined ps r lines)
-  pub cumulative : Stops (cumulative_line ps) (IsSpelledCumulative ps) (after_cumulative ps r lines)
-  pub items : Stops item_line IsSpelledItem (after_items ps r lines)
-  pub loose : Stops (loose_line ps) (IsSpelledLoose ps) lines
+later_lateral : (ps : List Position) (r : Rest) (lines : List (List ℕ)) → Later 8 lines → Later 6 (after_lateral ps r lines)
+later_lateral ps r lines ends = over_items r.items (after_items ps r lines) (later_items ps r lines ends)
 
-pub record StopsAll (ps : List Position) (r : Rest) (lines : List (List ℕ)) : Type 0 where
-  pub positions : Stops position_line IsSpelledPosition (after_positions ps r lines)
-  pub rest : StopsRest ps r lines
+over_lateral_lines : (ps : List Position) (lateral : Option Lateral) (lines : List (List ℕ)) → Later 6 lines → Later 4 (lateral_lines ps lateral ++ lines)
+over_lateral_lines ps None lines h = earlier 4 6 lines (omega arith) h
+over_lateral_lines ps (Some l) lines h =
+    subst (Later 4) (sym (append_assoc (map (side_line ps) l.sides) (lateral_line l.most.0 ∷ []) lines)) (over_sides ps l.sides (lateral_line l.most.0 ∷ lines) (at_lateral l.most.0 lines))
 
-pub record IsRightRest (ps : List Position) (r : Rest) : Type 0 where
-  pub excludes : All (IsSpelledExclude ps) r.excludes
-  pub combined : All (IsSpelledCombined ps) r.combined
-  pub cumulative : All (IsSpelledCumulative ps) r.cumulative
-  pub items : All IsSpelledItem r.items
-  pub loose : All (IsSpelledLoose ps) r.loose
+later_cumulative : (ps : List Position) (r : Rest) (lines : List (List ℕ)) → Later 8 lines → Later 4 (after_cumulative ps r lines)
+later_cumulative ps r lines ends = over_lateral_lines ps r.lateral (after_lateral ps r lines) (later_lateral ps r lines ends)
 
-pub right_rest : (t : Problem) → IsSpelled t → IsRightRest t.hold.positions (rest_of t)
-right_rest t s = record { excludes = s.excludes; combined = s.combined; cumulative = s.cumulative; items = s.items; loose = s.loose }
+later_combined : (ps : List Position) (r : Rest) (lines : List (List ℕ)) → Later 8 lines → Later 3 (after_combined ps r lines)
+later_combined ps r lines ends = over_cumulative ps r.cumulative (after_cumulative ps r lines) (later_cumulative ps r lines ends)
 
-rest_once : (ps : List Position) → AreClear 32 ps → (a b : Rest) (lines other : List (List ℕ)) → IsRightRest ps a → StopsRest ps a lines → IsRightRest ps b → StopsRest ps b other → after_positions ps a lines ≡ after_positions ps b other → (a ≡ b) × (lines ≡ other)
-rest_once ps clear a b lines other s stop t stop' e =
-    let excludes = section_once (exclude_line ps) (IsSpelledExclude ps) (exclude_once ps clear) a.excludes b.excludes (after_excludes ps a lines) (after_excludes ps b other) s.excludes t.excludes stop.excludes stop'.excludes e in
-    let combined = section_once (combined_line ps) (IsSpelledCombined ps) (combined_once ps clear) a.combined b.combined (after_combined ps a lines) (after_combined ps b other) s.combined t.combined stop.combined stop'.combined excludes.1 in
-    let cumulative = section_once (cumulative_line ps) (IsSpelledCumulative ps) (cumulative_once ps clear) a.cumulative b.cumulative (after_cumulative ps a lines) (after_cumulative ps b other) s.cumulative t.cumulative stop.cumulative stop'.cumulative combined.1 in
-    let items = section_once item_line IsSpelledItem item_once a.items b.items (after_items ps a lines) (after_items ps b other) s.items t.items stop.items stop'.items cumulative.1 in
-    let loose = section_once (loose_line ps) (IsSpelledLoose ps) (loose_once ps clear) a.loose b.loose lines other s.loose t.loose stop.loose stop'.loose items.1 in
-    (λ i. record { excludes = excludes.0 i; combined = combined.0 i; cumulative = cumulative.0 i; items = items.0 i; loose = loose.0 i }, loose.1)
+later_excludes : (ps : List Position) (r : Rest) (lines : List (List ℕ)) → Later 8 lines → Later 2 (after_excludes ps r lines)
+later_excludes ps r lines ends = over_combined ps r.combined (after_combined ps r lines) (later_combined ps r lines ends)
+
+later_positions : (ps : List Position) (r : Rest) (lines : List (List ℕ)) → Later 8 lines → Later 1 (after_positions ps r lines)
+later_positions ps r lines ends = over_excludes ps r.excludes (after_excludes ps r lines) (later_excludes ps r lines ends)
+
+-- ---- one task has these lines
+
+pub versions_differ : codes "TASK 1" ≢ codes "TASK 2"
+versions_differ e = let digits : 49 ≡ 50 = ap (λ line. get_or line 5 0) e in absurd (omega (arith, digits))
+
+lateral_lines_once : (ps : List Position) → AreClear 32 ps → (a b : Option Lateral) (lines other : List (List ℕ)) → header_line a ≡ header_line b → IfSome a (IsSpelledLateral ps) → IfSome b (IsSpelledLateral ps) → lateral_lines ps a ++ lines ≡ lateral_lines ps b ++ other → (a ≡ b) × (lines ≡ other)
+lateral_lines_once ps clear None None lines other h s t e = (refl, e)
+lateral_lines_once ps clear None (Some b) lines other h s t e = absurd (versions_differ h)
+lateral_lines_once ps clear (Some a) None lines other h s t e = absurd (versions_differ (sym h))
+lateral_lines_once ps clear (Some a) (Some b) lines other h s t e =
+    let whole : map (side_line ps) a.sides ++ (lateral_line a.most.0 ∷ lines) ≡ map (side_line ps) b.sides ++ (lateral_line b.most.0 ∷ other) =
+    sym (append_assoc (map (side_line ps) a.sides) (lateral_line a.most.0 ∷ []) lines) ∙ e ∙ append_assoc (map (side_line ps) b.sides) (lateral_line b.most.0 ∷ []) other in
+    let stop = stops_sides ps (lateral_line a.most.0 ∷ lines) (at_lateral a.most.0 lines) in
+    let stop' = stops_sides ps (lateral_line b.most.0 ∷ other) (at_lateral b.most.0 other) in
+    let sides = section_once (side_line ps) (IsSpelledSide ps) (side_once ps clear) a.sides b.sides _ _ s.sides t.sides stop stop' whole in
+    let line : lateral_line a.most.0 ≡ lateral_line b.most.0 = let both = sides.1 in cc in
+    let most = lateral_once a.most.0 b.most.0 line in
+    let tails : lines ≡ other = let both = sides.1 in cc in
+    (λ i. Some (record { most = record { 0 = most i }; sides = sides.0 i }), tails)
+
+record IsRightRest (ps : List Position) (r : Rest) : Type 0 where
+  excludes : All (IsSpelledExclude ps) r.excludes
+  combined : All (IsSpelledCombined ps) r.combined
+  cumulative : All (IsSpelledCumulative ps) r.cumulative
+  lateral : IfSome r.lateral (IsSpelledLateral ps)
+  items : All IsSpelledItem r.items
+  loose : All (IsSpelledLoose ps) r.loose
+
+right_rest : (t : Problem) → IsSpelled t → IsRightRest t.hold.positions (rest_of t)
+right_rest t s = record {
+  excludes = s.excludes;
+  combined = s.combined;
+  cumulative = s.cumulative;
+  lateral = s.lateral;
+  items = s.items;
+  loose = s.loose;
+}
+
+rest_once : (ps : List Position) → AreClear 32 ps → (a b : Rest) (lines other : List (List ℕ)) → header_line a.lateral ≡ header_line b.lateral → IsRightRest ps a → Later 8 lines → IsRightRest ps b → Later 8 other → after_positions ps a lines ≡ after_positions ps b other → (a ≡ b) × (lines ≡ other)
+rest_once ps clear a b lines other header s ends t ends' e =
+    let excludes = section_once (exclude_line ps) (IsSpelledExclude ps) (exclude_once ps clear) a.excludes b.excludes _ _ s.excludes t.excludes (stops_excludes ps _ (later_excludes ps a lines ends)) (stops_excludes ps _ (later_excludes ps b other ends')) e in
+    let combined = section_once (combined_line ps) (IsSpelledCombined ps) (combined_once ps clear) a.combined b.combined _ _ s.combined t.combined (stops_combined ps _ (later_combined ps a lines ends)) (stops_combined ps _ (later_combined ps b other ends')) excludes.1 in
+    let cumulative = section_once (cumulative_line ps) (IsSpelledCumulative ps) (cumulative_once ps clear) a.cumulative b.cumulative _ _ s.cumulative t.cumulative (stops_cumulative ps _ (later_cumulative ps a lines ends)) (stops_cumulative ps _ (later_cumulative ps b other ends')) combined.1 in
+    let lateral = lateral_lines_once ps clear a.lateral b.lateral (after_lateral ps a lines) (after_lateral ps b other) header s.lateral t.lateral cumulative.1 in
+    let items = section_once item_line IsSpelledItem item_once a.items b.items _ _ s.items t.items (stops_items _ (later_items ps a lines ends)) (stops_items _ (later_items ps b other ends')) lateral.1 in
+    let loose = section_once (loose_line ps) (IsSpelledLoose ps) (loose_once ps clear) a.loose b.loose lines other s.loose t.loose (stops_loose ps lines ends) (stops_loose ps other ends') items.1 in
+    (λ i. record { excludes = excludes.0 i; combined = combined.0 i; cumulative = cumulative.0 i; lateral = lateral.0 i; items = items.0 i; loose = loose.0 i }, loose.1)
 
 pub clear_names : (k : ℕ) (ps : List Position) → k < 45 → All IsSpelledPosition ps → AreClear k ps
 clear_names k ps low s = All-weaker IsSpelledPosition (λ (q : Position). Avoids k q.name) (λ q h. name_avoids k q.name low h.name) ps s
 
 -- the sections of two tasks, and what follows them, are the same where their lines are
-pub sections_once : (a b : Problem) (lines other : List (List ℕ)) → IsSpelled a → IsSpelled b → StopsAll a.hold.positions (rest_of a) lines → StopsAll b.hold.positions (rest_of b) other → front a ++ lines ≡ front b ++ other → (a.hold.positions ≡ b.hold.positions) × (rest_of a ≡ rest_of b) × (lines ≡ other)
-sections_once a b lines other s t stop stop' e =
-    let whole : map position_line a.hold.positions ++ after_positions a.hold.positions (rest_of a) lines ≡ map position_line b.hold.positions ++ after_positions b.hold.positions (rest_of b) other = append_cancel_left (codes "TASK 1" ∷ []) _ _ (sym (front-nested a lines) ∙ e ∙ front-nested b other) in
-    let positions = section_once position_line IsSpelledPosition position_once a.hold.positions b.hold.positions _ _ s.positions t.positions stop.positions stop'.positions whole in
-    let Same : List Position → Type 0 = λ ps. IsRightRest ps (rest_of b) → StopsRest ps (rest_of b) other → after_positions a.hold.positions (rest_of a) lines ≡ after_positions ps (rest_of b) other → (rest_of a ≡ rest_of b) × (lines ≡ other) in
-    let here : Same a.hold.positions = rest_once a.hold.positions (clear_names 32 a.hold.positions (lit< tt) s.positions) (rest_of a) (rest_of b) lines other (right_rest a s) stop.rest in
-    let rest = subst Same positions.0 here (right_rest b t) stop'.rest positions.1 in
+sections_once : (a b : Problem) (lines other : List (List ℕ)) → IsSpelled a → IsSpelled b → Later 8 lines → Later 8 other → header_line a.hold.lateral ≡ header_line b.hold.lateral → map position_line a.hold.positions ++ after_positions a.hold.positions (rest_of a) lines ≡ map position_line b.hold.positions ++ after_positions b.hold.positions (rest_of b) other → (a.hold.positions ≡ b.hold.positions) × (rest_of a ≡ rest_of b) × (lines ≡ other)
+sections_once a b lines other s t ends ends' header e =
+    let positions = section_once position_line IsSpelledPosition position_once a.hold.positions b.hold.positions _ _ s.positions t.positions (stops_positions _ (later_positions a.hold.positions (rest_of a) lines ends)) (stops_positions _ (later_positions b.hold.positions (rest_of b) other ends')) e in
+    let Same : List Position → Type 0 = λ ps. IsRightRest ps (rest_of b) → after_positions a.hold.positions (rest_of a) lines ≡ after_positions ps (rest_of b) other → (rest_of a ≡ rest_of b) × (lines ≡ other) in
+    let here : Same a.hold.positions = λ right. rest_once a.hold.positions (clear_names 32 a.hold.positions (lit< tt) s.positions) (rest_of a) (rest_of b) lines other header (right_rest a s) ends right ends' in
+    let rest = subst Same positions.0 here (right_rest b t) positions.1 in
     (positions.0, rest.0, rest.1)
-
--- ---- the kind of a line, by its first two bytes
-
-kind : List ℕ → ℕ
-kind [] = 8
-kind (a ∷ []) = 8
-kind (a ∷ b ∷ line) =
-    cond (eqb a 112) 1 (cond (eqb a 101) 2 (cond (eqb a 108) 6
-    (cond (eqb a 98) (cond (eqb b 117) 1 7) (cond (eqb a 99) (cond (eqb b 111) 3 4) (cond (eqb a 105) 5 8)))))
-
-kind_of_position : (q : Position) → kind (position_line q) ≡ 1
-unfolding kind
-kind_of_position q = of_word q.bulk _
-  where
-    of_word : (bulk : Bool) (rest : List ℕ) → kind (position_word bulk ++ 32 ∷ rest) ≡ 1
-    of_word true rest = refl
-    of_word false rest = refl
-
--- the next line is of a later kind
-abbrev Later : ℕ → List (List ℕ) → Type 0
-Later k lines = (line : List ℕ) (more : List (List ℕ)) → lines ≡ line ∷ more → k < kind line
-
-later_section : {X : Type 0} (line : X → List ℕ) (j k : ℕ) → ((x : X) → kind (line x) ≡ j) → k < j → (xs : List X) (lines : List (List ℕ)) → Later k lines → Later k (map line xs ++ lines)
-later_section line j k of less [] lines h = h
-later_section line j k of less (x ∷ xs) lines h =
-    λ l more e. let same : line x ≡ l = cc in let is = ap kind same in omega (arith, of x, is)
-
-stops_later : {X : Type 0} (line : X → List ℕ) (IsRight : X → Type 0) (k : ℕ) → ((x : X) → kind (line x) ≡ k) → (lines : List (List ℕ)) → Later k lines → Stops line IsRight lines
-stops_later line P k of lines h = λ x more p e. let later = h (line x) more e in omega (arith, of x, later)
-
-later_last : (k : ℕ) (t : Problem) (more : List (List ℕ)) → k < 7 → Later k (last t ++ more)
-unfolding kind
-later_last k t more less = λ line rest e. let same : base_line t.base ≡ line = cc in let is : 7 ≡ kind line = ap kind same in omega (arith, is)
-
--- the lines of the indices end all sections
-pub stops_last : (t : Problem) (more : List (List ℕ)) → StopsAll t.hold.positions (rest_of t) (last t ++ more)
-unfolding kind
-stops_last t more =
-    let ps = t.hold.positions in
-    let end = last t ++ more in
-    let loose : (k : ℕ) → k < 6 → Later k (after_items ps (rest_of t) end) = λ k less. later_section (loose_line ps) 6 k (λ x. refl) less t.loose end (later_last k t more (omega arith)) in
-    let items : (k : ℕ) → k < 5 → Later k (after_cumulative ps (rest_of t) end) = λ k less. later_section item_line 5 k (λ x. refl) less t.items _ (loose k (omega arith)) in
-    let cumulative : (k : ℕ) → k < 4 → Later k (after_combined ps (rest_of t) end) = λ k less. later_section (cumulative_line ps) 4 k (λ x. refl) less t.hold.cumulative _ (items k (omega arith)) in
-    let combined : (k : ℕ) → k < 3 → Later k (after_excludes ps (rest_of t) end) = λ k less. later_section (combined_line ps) 3 k (λ x. refl) less t.hold.combined _ (cumulative k (omega arith)) in
-    let excludes : (k : ℕ) → k < 2 → Later k (after_positions ps (rest_of t) end) = λ k less. later_section (exclude_line ps) 2 k (λ x. refl) less t.hold.excludes _ (combined k (omega arith)) in
-    record {
-      positions = stops_later position_line IsSpelledPosition 1 kind_of_position _ (excludes 1 (lit< tt));
-      rest = record {
-        excludes = stops_later (exclude_line ps) (IsSpelledExclude ps) 2 (λ x. refl) _ (combined 2 (lit< tt));
-        combined = stops_later (combined_line ps) (IsSpelledCombined ps) 3 (λ x. refl) _ (cumulative 3 (lit< tt));
-        cumulative = stops_later (cumulative_line ps) (IsSpelledCumulative ps) 4 (λ x. refl) _ (items 4 (lit< tt));
-        items = stops_later item_line IsSpelledItem 5 (λ x. refl) _ (loose 5 (lit< tt));
-        loose = stops_later (loose_line ps) (IsSpelledLoose ps) 6 (λ x. refl) _ (later_last 6 t more (lit< tt));
-      };
-    }
 
 same_task : (a b : Problem) → a.hold.positions ≡ b.hold.positions → rest_of a ≡ rest_of b → last a ≡ last b → a ≡ b
 same_task a b positions rest end =
@@ -180,7 +158,7 @@ same_task a b positions rest end =
     let window = window_once a.low a.high b.low b.high (cc) in
     let ideal = ideal_once a.ideal_low a.ideal_high b.ideal_low b.ideal_high (cc) in
     λ i. record {
-      hold = record { positions = positions i; excludes = (rest i).excludes; combined = (rest i).combined; cumulative = (rest i).cumulative };
+      hold = record { positions = positions i; excludes = (rest i).excludes; combined = (rest i).combined; cumulative = (rest i).cumulative; lateral = (rest i).lateral };
       items = (rest i).items;
       loose = (rest i).loose;
       base = base i;
@@ -193,7 +171,10 @@ same_task a b positions rest end =
 -- the lines of one task, and others after them, are those of another task only where it is the same and there are no others
 pub task_once : (a b : Problem) (more : List (List ℕ)) → IsSpelled a → IsSpelled b → task_lines a ++ more ≡ task_lines b → (a ≡ b) × (more ≡ [])
 task_once a b more s t e =
-    let same = sections_once a b (last a ++ more) (last b ++ []) s t (stops_last a more) (stops_last b []) (sym (append_assoc (front a) (last a) more) ∙ e) in
+    let whole = sym (task_lines-nested a more) ∙ e ∙ task_lines-whole b in
+    let header : header_line a.hold.lateral ≡ header_line b.hold.lateral = cc in
+    let rest : map position_line a.hold.positions ++ after_positions a.hold.positions (rest_of a) (last a ++ more) ≡ map position_line b.hold.positions ++ after_positions b.hold.positions (rest_of b) (last b) = cc in
+    let same = sections_once a b (last a ++ more) (last b) s t (at_base a.base _) (at_base b.base _) header rest in
     let end : last a ++ more ≡ last b = same.2 in
     let none : more ≡ [] = cc in
     (same_task a b same.0 same.1 (cc), none)

@@ -1,11 +1,10 @@
 -- no word of a task contains a space or the end of a line
-use Rattle.std.proofs.Common.{◌≡◌, ℕ, ◌-◌, ◌+◌, ◌<◌, ◌≤◌, Bool, true, false, ◌||◌, refl, eqb, List, [], ◌∷◌, ◌++◌, length, take, drop, sym, ◌∙◌, ap, arith, slice_range, ⊎_elim}
+use Rattle.std.proofs.Common.{◌≡◌, ℕ, ◌-◌, ◌+◌, ◌<◌, ◌≤◌, false, eqb, List, ◌++◌, length, take, drop, sym, ◌∙◌, ap, arith, slice_range, ⊎_elim}
 use Rattle.std.proofs.lemmas.Bool.{ne_eqb}
 use Rattle.std.proofs.lemmas.List.{take-append-drop, drop-drop}
-use Rattle.std.proofs.lemmas.List.Elements.{All-weaker, All-append, All-nil, All-cons, All-same}
-use Rattle.std.specs.List.{list_any}
+use Rattle.std.proofs.lemmas.List.Elements.{All-weaker, All-append, All-same}
 use Rattle.hold_parts.specs.Spellings.{IsCapital, IsDigit, IsCapitalOrDigit, IsName, IsKind, IsUldId}
-use Rattle.problem_text.specs.Cuts.{Avoids}
+use Rattle.text_lines.specs.Cuts.{Avoids}
 
 capital_avoids : (k c : ℕ) → k < 45 → IsCapital c → eqb c k ≡ false
 capital_avoids k c low h = ne_eqb c k (λ e. omega arith)
@@ -37,21 +36,3 @@ id_avoids k id low h =
     let owner = All-weaker IsCapitalOrDigit P (λ c g. letter_avoids k c low g) (drop (length id - 2) id) h.owner in
     let short : 9 ≤ length id = h.short in
     All-same P id (take 3 id ++ (slice_range id 3 (length id - 2) ++ drop (length id - 2) id)) (in_three id 3 (length id - 2) (omega arith)) (All-append P (take 3 id) (slice_range id 3 (length id - 2) ++ drop (length id - 2) id) kind (All-append P (slice_range id 3 (length id - 2)) (drop (length id - 2) id) serial owner))
-
-pub avoids-append : (k : ℕ) (xs ys : List ℕ) → Avoids k xs → Avoids k ys → Avoids k (xs ++ ys)
-avoids-append k xs ys p q = All-append (λ b. eqb b k ≡ false) xs ys p q
-
--- two texts with a space between them
-pub avoids-spaced : (k : ℕ) (xs ys : List ℕ) → eqb 32 k ≡ false → Avoids k xs → Avoids k ys → Avoids k (xs ++ 32 ∷ ys)
-avoids-spaced k xs ys s p q = avoids-append k xs (32 ∷ ys) p (All-cons (λ b. eqb b k ≡ false) 32 ys s q)
-
-or_false : (a b : Bool) → (a || b) ≡ false → (a ≡ false) × (b ≡ false)
-or_false false b e = (refl, e)
-or_false true b e = absurd (cc)
-
--- a word that is written out: the test computes
-pub plain_word : (k : ℕ) (word : List ℕ) → list_any (λ b. eqb b k) word ≡ false → Avoids k word
-plain_word k [] e = All-nil (λ b. eqb b k ≡ false)
-plain_word k (b ∷ word) e =
-    let parts = or_false (eqb b k) (list_any (λ c. eqb c k) word) e in
-    All-cons (λ b. eqb b k ≡ false) b word parts.0 (plain_word k word parts.1)

@@ -1,11 +1,14 @@
 -- texts that grow by one entry after another
-use Rattle.std.proofs.Common.{◌≡◌, ℕ, ◌+◌, ◌<◌, List, [], ◌∷◌, ◌++◌, length, map, take, get_or, subst, refl, ap, sym, ◌∙◌}
+use Rattle.std.proofs.Common.{◌≡◌, ℕ, ◌+◌, ◌<◌, Bool, Some, List, [], ◌∷◌, ◌++◌, length, map, take, get_or, subst, refl, ap, sym, ◌∙◌}
 use Rattle.std.proofs.lemmas.List.{append-nil, append_assoc, take_more}
 use Rattle.std.proofs.lemmas.List.Elements.{All-push}
 use Rattle.std.specs.Prelude.{All}
-use Rattle.problem_text.specs.TaskText.{text_of}
-use Rattle.problem_text.specs.WordRuns.{run_text}
-use Rattle.problem_text.proofs.SectionLemmas.{text_of-append}
+use Rattle.hold_parts.specs.declared.parts.Position.{Position}
+use Rattle.hold_parts.specs.declared.parts.Lateral.{Lateral}
+use Rattle.problem_text.specs.TaskText.{side_line, lateral_line, lateral_lines}
+use Rattle.text_lines.specs.Lines.{text_of}
+use Rattle.text_lines.specs.WordRuns.{run_text}
+use Rattle.text_lines.proofs.SectionLemmas.{text_of-append}
 
 run_push : {X : Type 0} (text : X → List ℕ) (xs : List X) (x : X) → run_text text (xs ++ x ∷ []) ≡ run_text text xs ++ text x
 run_push text [] x = append-nil (text x)
@@ -54,6 +57,13 @@ lines_grow_of P line xs i x start old new within is was grew right = (
 -- a text of some lines that grew by those of others
 pub more_lines : (done xs : List (List ℕ)) (old new : List ℕ) → old ≡ text_of done → new ≡ old ++ text_of xs → new ≡ text_of (done ++ xs)
 more_lines done xs old new was grew = grew ∙ ap (λ t. t ++ text_of xs) was ∙ sym (text_of-append done xs)
+
+-- the lines of a lateral limit
+pub lateral_written : (ps : List Position) (l : Lateral) (sides : List (ℕ × Bool)) (old middle new : List ℕ) → sides ≡ l.sides → middle ≡ old ++ text_of (map (side_line ps) sides) → new ≡ middle ++ (lateral_line l.most.0 ++ 10 ∷ []) → new ≡ old ++ text_of (lateral_lines ps (Some l))
+lateral_written ps l sides old middle new same first second =
+    second ∙ ap (λ t. t ++ (lateral_line l.most.0 ++ 10 ∷ [])) (first ∙ ap (λ xs. old ++ text_of (map (side_line ps) xs)) same)
+    ∙ append_assoc old (text_of (map (side_line ps) l.sides)) (lateral_line l.most.0 ++ 10 ∷ [])
+    ∙ ap (λ t. old ++ t) (sym (text_of-append (map (side_line ps) l.sides) (lateral_line l.most.0 ∷ [])))
 
 -- texts that grew piece by piece
 regroup : (old a b : List ℕ) (n m : List ℕ) → n ≡ old ++ a → m ≡ n ++ b → m ≡ old ++ (a ++ b)

@@ -1,24 +1,39 @@
 -- the parts of a task, as its lines state them
-use Rattle.std.specs.Prelude.{List, ℕ}
+use Rattle.std.specs.Prelude.{◌≡◌, ℕ, ◌+◌, List, [], ◌∷◌, ◌++◌, Option, Some, None, codes}
+use Rattle.mass_units.specs.Spelling.{IsIndex, IsNumber}
 use Rattle.hold_parts.specs.declared.parts.Position.{Position}
+use Rattle.hold_parts.specs.declared.parts.Lateral.{Lateral}
+use Rattle.hold_parts.specs.declared.parts.Indices.{Indices}
 use Rattle.hold_limits.specs.Problem.{Problem, problem_of}
-use Rattle.hold_limits.specs.Layout.{layout_of}
-use Rattle.problem_text.specs.TaskText.{exclude_line, combined_line, cumulative_line, item_line, loose_line, IsSpelledExclude, IsSpelledCombined, IsSpelledCumulative, IsSpelledItem, IsSpelledLoose}
-use Rattle.problem_text.specs.PositionNumbers.{keep_pair, keep_combined, keep_cumulative, keep_loose}
-use Rattle.problem_text.specs.Sections.{IsSection}
+use Rattle.hold_limits.specs.Layout.{layout_under}
+use Rattle.problem_text.specs.TaskText.{exclude_line, combined_line, cumulative_line, side_line, lateral_line, item_line, loose_line, base_line, window_line, ideal_line, IsSpelledExclude, IsSpelledCombined, IsSpelledCumulative, IsSpelledSide, IsSpelledItem, IsSpelledLoose}
+use Rattle.problem_text.specs.PositionNumbers.{keep_pair, keep_combined, keep_cumulative, keep_side, keep_loose}
+use Rattle.text_lines.specs.Sections.{IsSection}
+use Rattle.problem_text.specs.declared.parts.Version.{Version}
+use Rattle.problem_text.specs.declared.parts.Version.TheVariants.{One, Two}
 use Rattle.problem_text.specs.declared.parts.Sections.{Sections}
 use Rattle.problem_text.specs.declared.parts.Parts.{Parts}
 
--- the sections after the positions lie between two points of a text; a point is what is still to be read, with the
--- number of its first line
-pub record AreSections (ps : List Position) (before after : List ℕ) (number next : ℕ) (got : Sections) : Type 0 where
+-- a lateral limit, where the version has one, lies between two points of a text; a point is what is still to be read,
+-- with the number of its first line
+pub data IsLateral (ps : List Position) (before after : List ℕ) (number next : ℕ) : Version → Option Lateral → Type 0 where
+  absent : before ≡ after → number ≡ next → IsLateral ps before after number next One None
+  present : (got : Lateral) (behind : List ℕ) (end : ℕ)
+      → IsSection (side_line ps) (IsSpelledSide ps) keep_side before behind number end got.sides
+      → IsNumber got.most.0 → behind ≡ lateral_line got.most.0 ++ 10 ∷ after → next ≡ end + 1
+      → IsLateral ps before after number next Two (Some got)
+
+-- the sections after the positions lie between two points of a text
+pub record AreSections (version : Version) (ps : List Position) (before after : List ℕ) (number next : ℕ) (got : Sections) : Type 0 where
   pub after_excludes : List ℕ
   pub after_combined : List ℕ
   pub after_cumulative : List ℕ
+  pub after_lateral : List ℕ
   pub after_items : List ℕ
   pub excludes_end : ℕ
   pub combined_end : ℕ
   pub cumulative_end : ℕ
+  pub lateral_end : ℕ
   pub items_end : ℕ
   pub excludes : IsSection (exclude_line ps) (IsSpelledExclude ps) keep_pair before after_excludes number excludes_end
       got.excludes.items
@@ -26,12 +41,26 @@ pub record AreSections (ps : List Position) (before after : List ℕ) (number ne
       excludes_end combined_end got.combined.items
   pub cumulative : IsSection (cumulative_line ps) (IsSpelledCumulative ps) keep_cumulative after_combined after_cumulative
       combined_end cumulative_end got.cumulative.items
-  pub items : IsSection item_line IsSpelledItem (λ x. x) after_cumulative after_items cumulative_end items_end
+  pub lateral : IsLateral ps after_cumulative after_lateral cumulative_end lateral_end version got.lateral
+  pub items : IsSection item_line IsSpelledItem (λ x. x) after_lateral after_items lateral_end items_end
       got.items.items
   pub loose : IsSection (loose_line ps) (IsSpelledLoose ps) keep_loose after_items after items_end next got.loose.items
+
+-- the indices are in their spelling
+pub record AreIndices (at : Indices) : Type 0 where
+  pub base : IsIndex at.base.0
+  pub low : IsIndex at.window.low.0
+  pub high : IsIndex at.window.high.0
+  pub ideal_low : IsIndex at.ideal.low.0
+  pub ideal_high : IsIndex at.ideal.high.0
+
+-- the last lines of a task with these indices
+abbrev pub last_lines : Indices → List (List ℕ)
+last_lines at =
+    base_line at.base.0 ∷ window_line at.window.low.0 at.window.high.0 ∷ ideal_line at.ideal.low.0 at.ideal.high.0 ∷ codes "END" ∷ []
 
 -- the task with these parts
 abbrev pub problem_of_parts : Parts → Problem
 problem_of_parts p =
-    problem_of (layout_of p.positions.items p.sections.excludes.items p.sections.combined.items p.sections.cumulative.items)
-    p.sections.items.items p.sections.loose.items p.indices
+    problem_of (layout_under p.sections.lateral p.positions.items p.sections.excludes.items p.sections.combined.items
+    p.sections.cumulative.items) p.sections.items.items p.sections.loose.items p.indices

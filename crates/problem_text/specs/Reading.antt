@@ -1,17 +1,23 @@
 -- what the steps of the reader return
 use Rattle.std.specs.Prelude.{◌≡◌, ℕ, ℤ, List, ◌∷◌, ◌++◌, Some, None}
-use Rattle.mass_units.specs.Spelling.{index_text, IsIndex}
+use Rattle.mass_units.specs.Spelling.{index_text, IsIndex, IsNumber}
 use Rattle.hold_limits.specs.Problem.{Problem}
 use Rattle.hold_limits.specs.Faults.{hold_fault, task_fault}
-use Rattle.problem_text.specs.Cuts.{Avoids}
+use Rattle.problem_text.specs.TaskText.{lateral_line}
+use Rattle.problem_text.specs.Grammar.{version_line}
+use Rattle.problem_text.specs.declared.parts.Version.{Version}
+use Rattle.text_lines.specs.declared.fault.LineFault.{LineFault}
+use Rattle.text_lines.specs.declared.fault.LineFault.TheVariants as line
 use Rattle.problem_text.specs.declared.fault.TextFault.{TextFault}
 use Rattle.problem_text.specs.declared.fault.TextFault.TheVariants.{Line, NoEnd, Hold, Task, NoMemory}
 
--- the next line is wrong, or there is none
-pub data IsStopped (rest : List ℕ) (number : ℕ) (IsRight : List ℕ → Type 0) : TextFault → Type 0 where
-  at_line : (line after : List ℕ) → rest ≡ line ++ 10 ∷ after → Avoids 10 line → (IsRight line → ⊥)
-      → IsStopped rest number IsRight (Line number)
-  at_end : Avoids 10 rest → IsStopped rest number IsRight NoEnd
+-- the line is one of the two with which a task may begin
+abbrev pub IsVersionLine : List ℕ → Type 0
+IsVersionLine line = (version : Version) × (line ≡ version_line version)
+
+-- the line has the greatest lateral difference
+abbrev pub IsLateralLine : List ℕ → Type 0
+IsLateralLine line = (most : ℕ) × IsNumber most × (line ≡ lateral_line most)
 
 -- the line has one index after the keyword and its space
 abbrev pub IsIndexLine : List ℕ → List ℕ → Type 0
@@ -21,6 +27,12 @@ IsIndexLine keyword line = (index : ℤ) × IsIndex index × (line ≡ keyword +
 abbrev pub IsBandLine : List ℕ → List ℕ → Type 0
 IsBandLine keyword line =
     (low : ℤ) × (high : ℤ) × IsIndex low × IsIndex high × (line ≡ keyword ++ (index_text low ++ 32 ∷ index_text high))
+
+-- a fault of the lines, as a fault of the text
+abbrev pub text_fault : LineFault → TextFault
+text_fault (line.Line n) = Line n
+text_fault line.NoEnd = NoEnd
+text_fault line.NoMemory = NoMemory
 
 -- the fault is the first of the hold, or else of the task
 abbrev pub IsFaultOf : Problem → TextFault → Type 0

@@ -5,8 +5,9 @@ use Rattle.hold_limits.specs.Problem.{Problem}
 use Rattle.hold_limits.specs.Faults.{hold_fault, task_fault}
 use Rattle.hold_limits.specs.declared.fault.HoldFault.{HoldFault}
 use Rattle.hold_limits.specs.declared.fault.TaskFault.{TaskFault}
-use Rattle.problem_text.specs.Cuts.{Avoids}
-use Rattle.problem_text.specs.TaskText.{task_lines, text_of, IsSpelled, Spells}
+use Rattle.text_lines.specs.Cuts.{Avoids}
+use Rattle.problem_text.specs.TaskText.{task_lines, IsSpelled, Spells}
+use Rattle.text_lines.specs.Lines.{text_of}
 use Rattle.problem_text.specs.declared.fault.TextFault.{TextFault}
 use Rattle.problem_text.specs.declared.fault.TextFault.TheVariants.{Line, NoEnd, Hold, Task, NoMemory}
 

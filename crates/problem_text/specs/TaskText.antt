@@ -1,22 +1,20 @@
 -- the text of a task, line by line
-use Rattle.std.specs.Prelude.{◌≡◌, ◌≢◌, ℕ, ◌<◌, ◌≤◌, ℤ, Bool, true, false, List, [], ◌∷◌, ◌++◌, length, map, take, All, codes}
-use Rattle.std.specs.List.{join_with_byte}
+use Rattle.std.specs.Prelude.{◌≡◌, ℕ, ◌≤◌, ℤ, Bool, true, false, List, [], ◌∷◌, ◌++◌, length, map, All, Option, Some, None, IfSome, codes}
 use Rattle.mass_units.specs.Spelling.{number_text, signed_text, index_text, IsNumber, IsSignedNumber, IsIndex}
 use Rattle.hold_parts.specs.declared.lists.Fit.{Fit}
 use Rattle.hold_parts.specs.declared.parts.Position.{Position}
 use Rattle.hold_parts.specs.declared.parts.Combined.{Combined}
 use Rattle.hold_parts.specs.declared.parts.Cumulative.{Cumulative}
+use Rattle.hold_parts.specs.declared.parts.Lateral.{Lateral}
 use Rattle.hold_parts.specs.declared.parts.Item.{Item}
 use Rattle.hold_parts.specs.declared.parts.Loose.{Loose}
 use Rattle.hold_parts.specs.Spellings.{IsName, IsKind, IsUldId}
 use Rattle.hold_limits.specs.Layout.{name_at}
 use Rattle.hold_limits.specs.Problem.{Problem}
+use Rattle.text_lines.specs.Lines.{line_of, text_of}
+use Rattle.text_lines.specs.Names.{IsNamed}
 
 -- Lines -----------------------------------------------------------------------------------------
-
--- the words of a line are separated by one space
-abbrev pub line_of : List (List ℕ) → List ℕ
-line_of words = join_with_byte 32 words
 
 -- a kind that a position accepts, with the greatest mass of one: two words
 abbrev pub fit_words : List Fit → List (List ℕ)
@@ -43,15 +41,28 @@ abbrev pub combined_line : List Position → Combined → List ℕ
 combined_line positions limit =
     line_of (codes "combined" ∷ number_text limit.most.0 ∷ map (name_at positions) limit.places)
 
--- the word for the side of its position on which a cumulative limit counts
-abbrev pub side_word : Bool → List ℕ
-side_word true = codes "forward"
-side_word false = codes "aft"
+-- the word for the end of the hold up to which a cumulative limit counts
+abbrev pub end_word : Bool → List ℕ
+end_word true = codes "forward"
+end_word false = codes "aft"
 
 -- `cumulative forward NAME MOST` or `cumulative aft NAME MOST`
 abbrev pub cumulative_line : List Position → Cumulative → List ℕ
 cumulative_line positions limit =
-    line_of (codes "cumulative" ∷ side_word limit.forward ∷ name_at positions limit.place ∷ number_text limit.most.0 ∷ [])
+    line_of (codes "cumulative" ∷ end_word limit.forward ∷ name_at positions limit.place ∷ number_text limit.most.0 ∷ [])
+
+-- the word for the side of a position: whether it is on the right
+abbrev pub side_word : Bool → List ℕ
+side_word true = codes "right"
+side_word false = codes "left"
+
+-- `side NAME left` or `side NAME right`
+abbrev pub side_line : List Position → ℕ × Bool → List ℕ
+side_line positions side = line_of (codes "side" ∷ name_at positions side.0 ∷ side_word side.1 ∷ [])
+
+-- `lateral MOST`
+abbrev pub lateral_line : ℕ → List ℕ
+lateral_line most = line_of (codes "lateral" ∷ number_text most ∷ [])
 
 -- `item ID MASS`
 abbrev pub item_line : Item → List ℕ
@@ -76,22 +87,28 @@ ideal_line low high = line_of (codes "ideal" ∷ index_text low ∷ index_text h
 
 -- The text --------------------------------------------------------------------------------------
 
+-- `TASK 1`, or `TASK 2` for a task with a lateral limit
+abbrev pub header_line : Option Lateral → List ℕ
+header_line None = codes "TASK 1"
+header_line (Some lateral) = codes "TASK 2"
+
+-- the lines of the lateral limit, where there is one
+abbrev pub lateral_lines : List Position → Option Lateral → List (List ℕ)
+lateral_lines positions None = []
+lateral_lines positions (Some lateral) = map (side_line positions) lateral.sides ++ (lateral_line lateral.most.0 ∷ [])
+
 -- the lines of a task, in their order
 abbrev pub task_lines : Problem → List (List ℕ)
 task_lines t =
-    (codes "TASK 1" ∷ [])
+    (header_line t.hold.lateral ∷ [])
     ++ map position_line t.hold.positions
     ++ map (exclude_line t.hold.positions) t.hold.excludes
     ++ map (combined_line t.hold.positions) t.hold.combined
     ++ map (cumulative_line t.hold.positions) t.hold.cumulative
+    ++ lateral_lines t.hold.positions t.hold.lateral
     ++ map item_line t.items
     ++ map (loose_line t.hold.positions) t.loose
     ++ (base_line t.base ∷ window_line t.low t.high ∷ ideal_line t.ideal_low t.ideal_high ∷ codes "END" ∷ [])
-
--- lines as a text: an LF after each
-abbrev pub text_of : List (List ℕ) → List ℕ
-text_of [] = []
-text_of (line ∷ lines) = line ++ 10 ∷ text_of lines
 
 -- Spellings of the parts ------------------------------------------------------------------------
 
@@ -109,11 +126,6 @@ pub record IsSpelledPosition (q : Position) : Type 0 where
   pub kinds : All (λ (fit : Fit). IsKind fit.kind) q.fits
   pub masses : All (λ (fit : Fit). IsNumber fit.most.0) q.fits
 
--- the number is that of the first position with its name, so the name says which position is meant
-pub record IsNamed (positions : List Position) (q : ℕ) : Type 0 where
-  pub known : q < length positions
-  pub first : All (λ (earlier : Position). earlier.name ≢ name_at positions q) (take q positions)
-
 -- both positions of the pair are named
 abbrev pub IsSpelledExclude : List Position → ℕ × ℕ → Type 0
 IsSpelledExclude positions pair = IsNamed positions pair.0 × IsNamed positions pair.1
@@ -127,6 +139,15 @@ pub record IsSpelledCombined (positions : List Position) (limit : Combined) : Ty
 -- the position named, and the greatest mass in its spelling
 pub record IsSpelledCumulative (positions : List Position) (limit : Cumulative) : Type 0 where
   pub place : IsNamed positions limit.place
+  pub most : IsNumber limit.most.0
+
+-- the position named
+abbrev pub IsSpelledSide : List Position → ℕ × Bool → Type 0
+IsSpelledSide positions side = IsNamed positions side.0
+
+-- each position named, and the greatest difference in its spelling
+pub record IsSpelledLateral (positions : List Position) (limit : Lateral) : Type 0 where
+  pub sides : All (IsSpelledSide positions) limit.sides
   pub most : IsNumber limit.most.0
 
 -- the identity and the mass in their spelling
@@ -145,6 +166,7 @@ pub record IsSpelled (t : Problem) : Type 0 where
   pub excludes : All (IsSpelledExclude t.hold.positions) t.hold.excludes
   pub combined : All (IsSpelledCombined t.hold.positions) t.hold.combined
   pub cumulative : All (IsSpelledCumulative t.hold.positions) t.hold.cumulative
+  pub lateral : IfSome t.hold.lateral (IsSpelledLateral t.hold.positions)
   pub items : All IsSpelledItem t.items
   pub loose : All (IsSpelledLoose t.hold.positions) t.loose
   pub base : IsIndex t.base

@@ -1,8 +1,8 @@
 ghost use Rattle.std.specs.Prelude.{◌≡◌};
-ghost use Rattle.problem_text.specs.declared.fault.TextFault.TheVariants.{NoMemory as out_of_memory};
+ghost use Rattle.problem_text.specs.Reading.{text_fault};
 
-use desk_base::NoMemory;
 use hold_limits::{HoldFault, TaskFault};
+use text_lines::LineFault;
 use thiserror::Error;
 
 /// Why a text is not read as a task. Lines count from 1. Faults of a line come before those of the hold, and
@@ -26,10 +26,14 @@ pub enum TextFault {
     NoMemory,
 }
 
-impl From<NoMemory> for TextFault {
-    ghost from_gives = { λ _ fault. fault ≡ out_of_memory };
+impl From<LineFault> for TextFault {
+    ghost from_gives = { λ line fault. fault ≡ text_fault line };
 
-    fn from(_: NoMemory) -> TextFault {
-        TextFault::NoMemory
+    fn from(fault: LineFault) -> TextFault {
+        match fault {
+            LineFault::Line(number) => TextFault::Line(number),
+            LineFault::NoEnd => TextFault::NoEnd,
+            LineFault::NoMemory => TextFault::NoMemory,
+        }
     }
 }

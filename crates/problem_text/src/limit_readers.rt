@@ -5,19 +5,20 @@ ghost use Rattle.mass_units.specs.Spelling.{number_text, IsNumber};
 ghost use Rattle.hold_parts.specs.declared.parts.Combined.{Combined};
 ghost use Rattle.hold_parts.specs.declared.parts.Cumulative.{Cumulative};
 ghost use Rattle.hold_parts.specs.declared.parts.Loose.{Loose};
-ghost use Rattle.problem_text.specs.Cuts.{IsCutAt};
-ghost use Rattle.problem_text.specs.TaskText.{side_word, exclude_line, combined_line, cumulative_line, loose_line, IsNamed, IsSpelledExclude, IsSpelledCombined, IsSpelledCumulative, IsSpelledLoose};
+ghost use Rattle.text_lines.specs.Cuts.{IsCutAt};
+ghost use Rattle.problem_text.specs.TaskText.{end_word, side_word, exclude_line, combined_line, cumulative_line, side_line, loose_line, IsSpelledExclude, IsSpelledCombined, IsSpelledCumulative, IsSpelledSide, IsSpelledLoose};
+ghost use Rattle.text_lines.specs.Names.{IsNamed};
 ghost use Rattle.hold_limits.specs.Layout.{name_at};
-ghost use Rattle.problem_text.specs.PositionNumbers.{byte_of, keep_pair, keep_combined, keep_cumulative, keep_loose};
-ghost use Rattle.problem_text.specs.WordRuns.{run_text, name_text};
-ghost use Rattle.problem_text.specs.Sections.{Says};
+ghost use Rattle.problem_text.specs.PositionNumbers.{keep_pair, keep_combined, keep_cumulative, keep_side, keep_loose};
+ghost use Rattle.text_lines.specs.Names.{byte_of};
+ghost use Rattle.text_lines.specs.WordRuns.{run_text, name_text};
+ghost use Rattle.text_lines.specs.Sections.{Says};
 
-use crate::cuts::{after_prefix, cut, split_once};
-use crate::names::Names;
 use desk_base::NoMemory;
 use hold_limits::{Combined, Cumulative, Loose, Places};
 use mass_units::{Kg, read_number};
 use std::alloc::Global;
+use text_lines::{Names, after_prefix, cut, next_position, split_once};
 
 /// The two positions of a line `exclude NAME NAME`.
 pub fn read_exclude(names: &Names<'_>, line: &[u8]) -> Option<(u8, u8)>
@@ -93,18 +94,6 @@ fn read_positions(
     Ok(Some(numbers))
 }
 
-/// The number of the position that the first word names, and the words after it.
-fn next_position<'a>(names: &Names<'_>, words: &'a [u8]) -> Option<(u8, &'a [u8])>
-    ensures found { IfSome result (λ x. (number : ℕ) × (x.0 ≡ byte_of number) × IsNamed names.now.positions.now number
-        × (words.now ≡ name_text names.now.positions.now number ++ x.1.now)) }
-    ensures rest { IfSome result (λ x. IsCutAt 32 x.1.now) }
-    ensures none { IfNone result ((number : ℕ) (rest : List ℕ) → IsNamed names.now.positions.now number → IsCutAt 32 rest
-        → words.now ≢ name_text names.now.positions.now number ++ rest) }
-{
-    let (name, rest) = cut(b' ', after_prefix(b" ", words)?);
-    Some((names.number_of(name)?, rest))
-}
-
 /// The limit of a line `cumulative forward NAME MOST` or `cumulative aft NAME MOST`.
 pub fn read_cumulative(names: &Names<'_>, line: &[u8]) -> Option<Cumulative>
     ensures found { IfSome result (Says (cumulative_line names.now.positions.now)
@@ -112,8 +101,8 @@ pub fn read_cumulative(names: &Names<'_>, line: &[u8]) -> Option<Cumulative>
     ensures none { IfNone result ((limit : Cumulative)
         → IsSpelledCumulative names.now.positions.now limit → line.now ≢ cumulative_line names.now.positions.now limit) }
 {
-    let (side, rest) = split_once(b' ', after_prefix(b"cumulative ", line)?)?;
-    let forward = read_side(side)?;
+    let (end, rest) = split_once(b' ', after_prefix(b"cumulative ", line)?)?;
+    let forward = read_end(end)?;
     let (name, most) = split_once(b' ', rest)?;
     let place = names.number_of(name)?;
     let most = Kg(read_number(most)?);
@@ -125,13 +114,36 @@ pub fn read_cumulative(names: &Names<'_>, line: &[u8]) -> Option<Cumulative>
 }
 
 /// Whether the word is `forward`. None where it is neither `forward` nor `aft`.
-fn read_side(word: &[u8]) -> Option<bool>
-    ensures found { IfSome result (λ forward. word.now ≡ side_word forward) }
-    ensures none { IfNone result ((forward : Bool) → word.now ≢ side_word forward) }
+fn read_end(word: &[u8]) -> Option<bool>
+    ensures found { IfSome result (λ forward. word.now ≡ end_word forward) }
+    ensures none { IfNone result ((forward : Bool) → word.now ≢ end_word forward) }
 {
     match word {
         b"forward" => Some(true),
         b"aft" => Some(false),
+        _ => None,
+    }
+}
+
+/// The position of a line `side NAME left` or `side NAME right`, and whether it is on the right.
+pub fn read_side(names: &Names<'_>, line: &[u8]) -> Option<(u8, bool)>
+    ensures found { IfSome result (Says (side_line names.now.positions.now)
+        (IsSpelledSide names.now.positions.now) keep_side line.now) }
+    ensures none { IfNone result ((side : ℕ × Bool)
+        → IsSpelledSide names.now.positions.now side → line.now ≢ side_line names.now.positions.now side) }
+{
+    let (name, side) = split_once(b' ', after_prefix(b"side ", line)?)?;
+    Some((names.number_of(name)?, is_right(side)?))
+}
+
+/// Whether the word is `right`. None where it is neither `right` nor `left`.
+fn is_right(word: &[u8]) -> Option<bool>
+    ensures found { IfSome result (λ right. word.now ≡ side_word right) }
+    ensures none { IfNone result ((right : Bool) → word.now ≢ side_word right) }
+{
+    match word {
+        b"right" => Some(true),
+        b"left" => Some(false),
         _ => None,
     }
 }

@@ -1,13 +1,12 @@
 //! The kinds of lines that a task may have any number of.
 
-use crate::limit_readers::{read_combined, read_cumulative, read_exclude, read_loose};
+use crate::limit_readers::{read_combined, read_cumulative, read_exclude, read_loose, read_side};
 use crate::line_readers::read_item;
-use crate::names::Names;
 use crate::position_reader::read_position;
-use crate::sections::LineReader;
 use desk_base::NoMemory;
 use hold_limits::{Combined, Cumulative, Item, Loose, Position};
 use std::alloc::Global;
+use text_lines::{LineReader, Names};
 
 /// `position NAME COMPARTMENT INFLUENCE KIND MOST KIND MOST ..`, or `bulk NAME COMPARTMENT INFLUENCE`.
 #[derive(Clone, Copy)]
@@ -24,6 +23,10 @@ pub struct CombinedLines<'r, 'a>(pub &'r Names<'a>);
 /// `cumulative forward NAME MOST` or `cumulative aft NAME MOST`.
 #[derive(Clone, Copy)]
 pub struct CumulativeLines<'r, 'a>(pub &'r Names<'a>);
+
+/// `side NAME left` or `side NAME right`.
+#[derive(Clone, Copy)]
+pub struct SideLines<'r, 'a>(pub &'r Names<'a>);
 
 /// `item ID MASS`.
 #[derive(Clone, Copy)]
@@ -97,6 +100,23 @@ impl LineReader for CumulativeLines<'_, '_> {
 
     fn read(&self, _alloc: Global, line: &[u8]) -> Result<Option<Cumulative>, NoMemory> {
         Ok(read_cumulative(self.0, line))
+    }
+}
+
+impl LineReader for SideLines<'_, '_> {
+    ghost use Rattle.problem_text.specs.TaskText.{side_line, IsSpelledSide};
+    ghost use Rattle.problem_text.specs.PositionNumbers.{keep_side};
+
+    type Entry = (u8, bool);
+
+    ghost text = { λ r. side_line r.0.now.positions.now };
+
+    ghost spelled = { λ r. IsSpelledSide r.0.now.positions.now };
+
+    ghost keep = { λ _. keep_side };
+
+    fn read(&self, _alloc: Global, line: &[u8]) -> Result<Option<(u8, bool)>, NoMemory> {
+        Ok(read_side(self.0, line))
     }
 }
 

@@ -3,12 +3,14 @@
 ghost use Rattle.std.specs.Prelude.{◌≡◌, ℕ, ℤ, List, [], ◌∷◌, ◌++◌, OnOk, codes};
 ghost use Rattle.mass_units.specs.Spelling.{number_text, signed_text, index_text};
 ghost use Rattle.hold_parts.specs.Spellings.{IsName, IsUldId};
-ghost use Rattle.problem_text.specs.TaskText.{line_of, position_word, side_word, position_line, exclude_line, combined_line, cumulative_line, item_line, loose_line};
-ghost use Rattle.problem_text.specs.WordRuns.{run_text, fit_text, name_text};
+ghost use Rattle.problem_text.specs.TaskText.{position_word, end_word, side_word, position_line, exclude_line, combined_line, cumulative_line, side_line, lateral_line, item_line, loose_line};
+ghost use Rattle.text_lines.specs.Lines.{line_of};
+ghost use Rattle.problem_text.specs.WordRuns.{fit_text};
+ghost use Rattle.text_lines.specs.WordRuns.{run_text, name_text};
 
 use desk_base::NoMemory;
 use hold_limits::{Combined, Cumulative, Fit, Hold, Item, Loose, Position};
-use mass_units::{Ticks, write_number, write_signed, write_ticks5};
+use mass_units::{Kg, Ticks, write_number, write_signed, write_ticks5};
 use std::alloc::Global;
 
 /// The first word of a position's line.
@@ -18,11 +20,18 @@ fn word_of_position(bulk: bool) -> &'static [u8]
     if bulk { b"bulk" } else { b"position" }
 }
 
-/// The word for the side on which a cumulative limit counts.
-fn word_of_side(forward: bool) -> &'static [u8]
-    ensures { result.now ≡ side_word forward }
+/// The word for the end of the hold up to which a cumulative limit counts.
+fn word_of_end(forward: bool) -> &'static [u8]
+    ensures { result.now ≡ end_word forward }
 {
     if forward { b"forward" } else { b"aft" }
+}
+
+/// The word for the side of a position.
+fn word_of_side(right: bool) -> &'static [u8]
+    ensures { result.now ≡ side_word right }
+{
+    if right { b"right" } else { b"left" }
 }
 
 /// Appends a word after a space.
@@ -144,9 +153,32 @@ pub fn push_cumulative(
         (text.new.items ≡ text.old.items ++ (cumulative_line hold.now.positions limit.now ++ 10 ∷ [])) }
 {
     text.extend_from_slice(b"cumulative")?;
-    push_word(text, word_of_side(limit.forward))?;
+    push_word(text, word_of_end(limit.forward))?;
     push_word(text, hold.name_at(limit.place))?;
     push_number(alloc, text, limit.most.0)?;
+    text.push(b'\n')?;
+    Ok(())
+}
+
+/// Appends the line of a position's side.
+pub fn push_side(text: &mut Vec<u8>, hold: &Hold, side: (u8, bool)) -> Result<(), NoMemory>
+    ensures { OnOk result
+        (text.new.items ≡ text.old.items ++ (side_line hold.now.positions side ++ 10 ∷ [])) }
+{
+    text.extend_from_slice(b"side")?;
+    push_word(text, hold.name_at(side.0))?;
+    push_word(text, word_of_side(side.1))?;
+    text.push(b'\n')?;
+    Ok(())
+}
+
+/// Appends the line of the greatest lateral difference.
+pub fn push_lateral_most(alloc: Global, text: &mut Vec<u8>, most: Kg) -> Result<(), NoMemory>
+    ensures { OnOk result
+        (text.new.items ≡ text.old.items ++ (lateral_line most.0 ++ 10 ∷ [])) }
+{
+    text.extend_from_slice(b"lateral")?;
+    push_number(alloc, text, most.0)?;
     text.push(b'\n')?;
     Ok(())
 }

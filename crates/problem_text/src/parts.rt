@@ -1,5 +1,14 @@
-use hold_limits::{Combined, Cumulative, Item, Loose, Position};
+use hold_limits::{Combined, Cumulative, Item, Lateral, Loose, Position};
 use hold_parts::Indices;
+
+/// The two forms of a task's text, by their first line.
+#[derive(Clone, Copy, Debug, PartialEq, Eq)]
+pub enum Version {
+    /// Without a lateral limit.
+    One,
+    /// With one.
+    Two,
+}
 
 /// What the lines between those of the positions and those of the indices say.
 #[derive(Debug, Drop)]
@@ -7,6 +16,7 @@ pub struct Sections {
     pub excludes: Vec<(u8, u8)>,
     pub combined: Vec<Combined>,
     pub cumulative: Vec<Cumulative>,
+    pub lateral: Option<Lateral>,
     pub items: Vec<Item>,
     pub loose: Vec<Loose>,
 }

@@ -5,15 +5,16 @@ ghost use Rattle.mass_units.specs.Spelling.{number_text, signed_text, IsNumber, 
 ghost use Rattle.hold_parts.specs.declared.lists.Fit.{Fit};
 ghost use Rattle.hold_parts.specs.declared.parts.Position.{Position};
 ghost use Rattle.hold_parts.specs.Spellings.{IsKind, IsName};
-ghost use Rattle.problem_text.specs.Cuts.{Avoids, IsCutAt};
-ghost use Rattle.problem_text.specs.WordRuns.{run_text, fit_text, IsSpelledFit};
+ghost use Rattle.text_lines.specs.Cuts.{Avoids, IsCutAt};
+ghost use Rattle.problem_text.specs.WordRuns.{fit_text, IsSpelledFit};
+ghost use Rattle.text_lines.specs.WordRuns.{run_text};
 ghost use Rattle.problem_text.specs.TaskText.{position_word, position_line, NamesKindsUnlessBulk, IsSpelledPosition};
 
-use crate::cuts::{after_prefix, cut, split_once};
 use desk_base::NoMemory;
 use hold_limits::{Fit, Fits, Name, Position, is_kind};
 use mass_units::{Kg, read_number, read_signed};
 use std::alloc::Global;
+use text_lines::{after_prefix, cut, split_once};
 
 /// The words of a position line. The kinds and masses at its end are not split yet.
 #[derive(Clone, Copy)]

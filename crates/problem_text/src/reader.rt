@@ -1,27 +1,26 @@
-ghost use Rattle.std.specs.Prelude.{◌≡◌, ◌∷◌, ◌++◌, [], All, codes, IfOk, IfErr, OnOk, MatchResult, None};
-ghost use Rattle.hold_parts.specs.declared.parts.Position.{Position};
-ghost use Rattle.problem_text.specs.Cuts.{Avoids};
+ghost use Rattle.std.specs.Prelude.{◌≡◌, ◌∷◌, ◌++◌, [], All, codes, IfOk, IfErr, MatchResult, Some, None};
+ghost use Rattle.hold_limits.specs.Layout.{layout_under};
 ghost use Rattle.hold_limits.specs.Problem.{Problem};
 ghost use Rattle.hold_limits.specs.Faults.{IsLawful, IsWellSpelled, hold_fault, task_fault};
-ghost use Rattle.problem_text.specs.TaskText.{Spells};
+ghost use Rattle.problem_text.specs.TaskText.{IsSpelledPosition, Spells};
+ghost use Rattle.text_lines.specs.Lines.{text_of};
+ghost use Rattle.problem_text.specs.Grammar.{AreLimits, AreLateral, AreLast};
+ghost use Rattle.text_lines.specs.Grammar.{Fails};
 ghost use Rattle.problem_text.specs.Refusals.{IsRefused};
 ghost use Rattle.problem_text.specs.PositionNumbers.{keep_problem};
-ghost use Rattle.problem_text.specs.Parts.{AreSections, problem_of_parts};
-ghost use Rattle.problem_text.specs.Reading.{IsFaultOf};
+ghost use Rattle.problem_text.specs.Parts.{AreSections, IsLateral, AreIndices, last_lines, problem_of_parts};
+ghost use Rattle.problem_text.specs.Reading.{text_fault, IsFaultOf};
 
 use crate::fault::TextFault;
 use crate::line_kinds::{
-    CombinedLines, CumulativeLines, ExcludeLines, ItemLines, LooseLines, PositionLines,
+    CombinedLines, CumulativeLines, ExcludeLines, ItemLines, LooseLines, PositionLines, SideLines,
 };
-use crate::lines::Lines;
-use crate::names::Names;
-use crate::parts::{Parts, Sections};
-use crate::sections::read_section;
-use crate::single_lines::{expect_line, next_band, next_index};
-use desk_base::NoMemory;
-use hold_limits::{Hold, Position, Task};
+use crate::parts::{Parts, Sections, Version};
+use crate::single_lines::{next_band, next_index, next_lateral_most, next_version};
+use hold_limits::{Combined, Cumulative, Hold, HoldFault, Lateral, Position, Sides, Task};
 use hold_parts::Indices;
 use std::alloc::Global;
+use text_lines::{LineFault, Lines, Names, expect_line, read_section};
 
 /// Reads the task that the text spells. Each line ends with one LF, and its words are separated by one space.
 ///
@@ -39,54 +38,93 @@ pub fn read_task(alloc: Global, text: &[u8]) -> Result<Task, TextFault>
 }
 
 /// The parts that the lines of the text spell.
-fn read_parts(alloc: Global, text: &[u8]) -> Result<Parts, TextFault>
+fn read_parts(alloc: Global, text: &[u8]) -> Result<Parts, LineFault>
     ensures read { IfOk result (λ parts. (t : Problem) × Spells text.now t
         × (problem_of_parts parts ≡ keep_problem t)) }
-    ensures refused { IfErr result (IsRefused text.now) }
+    ensures refused { IfErr result (λ fault. IsRefused text.now (text_fault fault)) }
 {
     let mut lines = Lines::new(text);
-    expect_line(b"TASK 1", &mut lines)?;
+    let version = next_version(&mut lines)?;
     let positions = read_section(alloc, &PositionLines, &mut lines)?;
-    let sections = read_sections(alloc, &positions, &mut lines)?;
-    let base = next_index(b"base ", &mut lines)?;
-    let window = next_band(b"window ", &mut lines)?;
-    let ideal = next_band(b"ideal ", &mut lines)?;
-    expect_line(b"END", &mut lines)?;
-    if !lines.rest.is_empty() {
-        return Err(TextFault::Line(lines.number));
-    }
+    let sections = read_sections(alloc, version, &positions, &mut lines)?;
+    let indices = read_indices(&mut lines)?;
     Ok(Parts {
         positions,
         sections,
-        indices: Indices {
-            base,
-            window,
-            ideal,
-        },
+        indices,
     })
 }
 
 /// What the lines after those of the positions say, up to those of the indices.
 fn read_sections(
     alloc: Global,
+    version: Version,
     positions: &[Position],
     lines: &mut Lines<'_>,
-) -> Result<Sections, NoMemory>
-    requires { All (λ (q : Position). Avoids 32 q.name) positions.now }
-    ensures { IfOk result (AreSections positions.now lines.old.rest.now lines.new.rest.now lines.old.number lines.new.number) }
+) -> Result<Sections, LineFault>
+    requires spelled { All IsSpelledPosition positions.now }
+    ensures read { IfOk result (AreSections version positions.now lines.old.rest.now lines.new.rest.now
+        lines.old.number lines.new.number) }
+    ensures refused { IfErr result (Fails (AreLimits version positions.now) lines.old.rest.now lines.old.number) }
 {
     let names = Names::new(alloc, positions)?;
     let excludes = read_section(alloc, &ExcludeLines(&names), lines)?;
     let combined = read_section(alloc, &CombinedLines(&names), lines)?;
     let cumulative = read_section(alloc, &CumulativeLines(&names), lines)?;
+    let lateral = read_lateral(alloc, version, &names, lines)?;
     let items = read_section(alloc, &ItemLines, lines)?;
     let loose = read_section(alloc, &LooseLines(&names), lines)?;
     Ok(Sections {
         excludes,
         combined,
         cumulative,
+        lateral,
         items,
         loose,
+    })
+}
+
+/// The lateral limit, which a text of the second version has.
+fn read_lateral(
+    alloc: Global,
+    version: Version,
+    names: &Names<'_>,
+    lines: &mut Lines<'_>,
+) -> Result<Option<Lateral>, LineFault>
+    requires spelled { All IsSpelledPosition names.now.positions.now }
+    ensures read { IfOk result (IsLateral names.now.positions.now lines.old.rest.now lines.new.rest.now
+        lines.old.number lines.new.number version) }
+    ensures refused { IfErr result (Fails (AreLateral version names.now.positions.now) lines.old.rest.now lines.old.number) }
+{
+    match version {
+        Version::One => Ok(None),
+        Version::Two => {
+            let sides = read_section(alloc, &SideLines(names), lines)?;
+            let most = next_lateral_most(lines)?;
+            Ok(Some(Lateral {
+                most,
+                sides: Sides::from(sides),
+            }))
+        }
+    }
+}
+
+/// The indices, which the last lines of a text say. Nothing follows these lines.
+fn read_indices(lines: &mut Lines<'_>) -> Result<Indices, LineFault>
+    ensures read { IfOk result (λ indices. AreIndices indices × (lines.old.rest.now ≡ text_of (last_lines indices))) }
+    ensures refused { IfErr result (Fails AreLast lines.old.rest.now lines.old.number) }
+{
+    let base = next_index(b"base ", lines)?;
+    let window = next_band(b"window ", lines)?;
+    let ideal = next_band(b"ideal ", lines)?;
+    expect_line(b"END", lines)?;
+    if !lines.rest.is_empty() {
+        return Err(LineFault::Line(lines.number));
+    }
+    Ok(Indices {
+        base,
+        window,
+        ideal,
     })
 }
 
@@ -105,10 +143,13 @@ fn task_of(parts: Parts) -> Result<Task, TextFault>
         excludes,
         combined,
         cumulative,
+        lateral,
         items,
         loose,
     } = sections;
-    let hold = Hold::new(positions, excludes, combined, cumulative).map_err(TextFault::Hold)?;
+    let hold = hold_of(positions, excludes, combined, cumulative, lateral).map_err(
+        TextFault::Hold,
+    )?;
     Task::new(
         hold,
         items,
@@ -120,6 +161,28 @@ fn task_of(parts: Parts) -> Result<Task, TextFault>
         indices.ideal.high,
     )
     .map_err(TextFault::Task)
+}
+
+/// The hold with these positions, and with these limits of its sections.
+fn hold_of(
+    positions: Vec<Position>,
+    excludes: Vec<(u8, u8)>,
+    combined: Vec<Combined>,
+    cumulative: Vec<Cumulative>,
+    lateral: Option<Lateral>,
+) -> Result<Hold, HoldFault>
+    requires { IsWellSpelled (layout_under lateral positions.items excludes.items combined.items cumulative.items) }
+    ensures made { IfOk result (λ hold.
+        hold ≡ layout_under lateral positions.items excludes.items combined.items cumulative.items) }
+    ensures lawful { IfOk result (λ hold. hold_fault hold ≡ None) }
+    ensures refused { IfErr result (λ fault.
+        hold_fault (layout_under lateral positions.items excludes.items combined.items cumulative.items) ≡ Some fault) }
+{
+    let hold = Hold::new(positions, excludes, combined, cumulative)?;
+    match lateral {
+        Some(lateral) => hold.with_lateral(lateral),
+        None => Ok(hold),
+    }
 }
 
 #[cfg(test)]

@@ -4,11 +4,12 @@ ghost use Rattle.std.specs.Prelude.{◌≡◌, ◌∷◌, [], ◌++◌, All, IfO
 ghost use Rattle.hold_parts.specs.declared.parts.Item.{Item};
 ghost use Rattle.hold_parts.specs.declared.parts.Position.{Position};
 ghost use Rattle.hold_parts.specs.Spellings.{IsName, IsUldId};
-ghost use Rattle.problem_text.specs.TaskText.{text_of, position_line, exclude_line, combined_line, cumulative_line, item_line, loose_line, base_line, window_line, ideal_line, Spells};
+ghost use Rattle.problem_text.specs.TaskText.{position_line, exclude_line, combined_line, cumulative_line, side_line, header_line, lateral_lines, item_line, loose_line, base_line, window_line, ideal_line, Spells};
+ghost use Rattle.text_lines.specs.Lines.{text_of};
 
 use crate::line_writers::{
     push_band_line, push_combined, push_cumulative, push_exclude, push_index_line, push_item,
-    push_loose, push_position,
+    push_lateral_most, push_loose, push_position, push_side,
 };
 use desk_base::NoMemory;
 use hold_limits::{Hold, Item, Loose, Position, Task};
@@ -55,6 +56,39 @@ fn push_all_cumulative(alloc: Global, text: &mut Vec<u8>, hold: &Hold) -> Result
     Ok(())
 }
 
+fn push_sides(text: &mut Vec<u8>, hold: &Hold, sides: &[(u8, bool)]) -> Result<(), NoMemory>
+    ensures { OnOk result
+        (text.new.items ≡ text.old.items ++ text_of (map (side_line hold.now.positions) sides.now)) }
+{
+    for side in sides {
+        push_side(text, hold, *side)?;
+    }
+    Ok(())
+}
+
+/// Appends the lines of the lateral limit, where the hold has one.
+fn push_lateral(alloc: Global, text: &mut Vec<u8>, hold: &Hold) -> Result<(), NoMemory>
+    ensures { OnOk result (text.new.items
+        ≡ text.old.items ++ text_of (lateral_lines hold.now.positions hold.now.lateral)) }
+{
+    let Some(lateral) = hold.lateral() else {
+        return Ok(());
+    };
+    push_sides(text, hold, lateral.sides.as_slice())?;
+    push_lateral_most(alloc, text, lateral.most)?;
+    Ok(())
+}
+
+/// The first line of the text of a task over the hold.
+fn header(hold: &Hold) -> &'static [u8]
+    ensures { result.now ≡ header_line hold.now.lateral ++ 10 ∷ [] }
+{
+    match hold.lateral() {
+        None => b"TASK 1\n",
+        Some(_) => b"TASK 2\n",
+    }
+}
+
 fn push_items(alloc: Global, text: &mut Vec<u8>, items: &[Item]) -> Result<(), NoMemory>
     ensures written { OnOk result
         (text.new.items ≡ text.old.items ++ text_of (map item_line items.now)) }
@@ -97,11 +131,12 @@ pub fn write_task(alloc: Global, task: &Task) -> Result<Vec<u8>, NoMemory>
 {
     let hold = task.hold();
     let mut text = Vec::new(alloc);
-    text.extend_from_slice(b"TASK 1\n")?;
+    text.extend_from_slice(header(hold))?;
     push_positions(alloc, &mut text, hold.positions())?;
     push_excludes(&mut text, hold)?;
     push_all_combined(alloc, &mut text, hold)?;
     push_all_cumulative(alloc, &mut text, hold)?;
+    push_lateral(alloc, &mut text, hold)?;
     push_items(alloc, &mut text, task.items())?;
     push_all_loose(alloc, &mut text, hold, task.loose())?;
     push_indices(alloc, &mut text, task)?;

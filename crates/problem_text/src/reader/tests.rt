@@ -5,7 +5,7 @@ use mass_units::{Kg, Ticks};
 use std::alloc::Global;
 use std::test::Fail;
 
-const TASK: &[u8] = b"TASK 1
+const TASK: &[u8] = b"TASK 2
 position 11 1 -600 AKE 1500
 position 12 1 -400 AKE 1500 PMC 3000
 bulk 51 5 900
@@ -13,6 +13,9 @@ exclude 12 11
 combined 2500 11 12
 cumulative aft 12 4500
 cumulative forward 11 1200
+side 11 left
+side 51 right
+lateral 900
 item AKE10001XX 1000
 loose 51 0
 base 50.00000
@@ -100,27 +103,59 @@ fn the_offer_and_the_indices_are_read(rt: HostRuntime) -> Result<(), Fail> {
 #[test]
 fn the_first_fault_is_named(rt: HostRuntime) -> Result<(), Fail> {
     let table: [(usize, &[u8], TextFault); 13] = [
-        (1, b"TASK  1", TextFault::Line(1)),
-        (2, b"item AKE10001XX 1000", TextFault::Line(3)),
+        (1, b"TASK  2", TextFault::Line(1)),
+        (2, b"item AKE10001XX 1000", TextFault::Line(2)),
         (4, b"bulk 51 5 900 AKE 1500", TextFault::Line(4)),
         (5, b"exclude 11 13", TextFault::Line(5)),
         (5, b"exclude 11 51", TextFault::Hold(HoldFault::Exclude(0))),
         (6, b"combined 2500", TextFault::Line(6)),
-        (7, b"loose 51 0", TextFault::Line(8)),
-        (9, b"item AKE10001XX 01000", TextFault::Line(9)),
+        (7, b"loose 51 0", TextFault::Line(7)),
+        (12, b"item AKE10001XX 01000", TextFault::Line(12)),
         (
-            10,
+            13,
             b"loose 11 0",
             TextFault::Task(TaskFault::LooseNotBulk(0)),
         ),
         (
-            13,
+            16,
             b"ideal 1.00000 0.00000",
             TextFault::Task(TaskFault::Range(6)),
         ),
-        (11, b"base 50.0", TextFault::Line(11)),
-        (13, b"ideal 1.00000 0.0", TextFault::Line(13)),
-        (15, b" ", TextFault::Line(15)),
+        (14, b"base 50.0", TextFault::Line(14)),
+        (16, b"ideal 1.00000 0.0", TextFault::Line(16)),
+        (18, b" ", TextFault::Line(18)),
+    ];
+    for (number, line, fault) in table {
+        let got = fault_with(rt.alloc(), number, line, 1)?;
+        assert!(rt; got == Some(fault), "line {number}");
+    }
+    Ok(())
+}
+
+#[test]
+fn the_lateral_limit_is_read(rt: HostRuntime) -> Result<(), Fail> {
+    let task = read_task(rt.alloc(), TASK)?;
+    let limit = task.hold().lateral();
+    assert!(rt; limit.is_some());
+    for limit in limit {
+        assert_eq!(rt; limit.sides.as_slice(), [(0, false), (2, true)].as_slice());
+        assert_eq!(rt; limit.most, Kg(900));
+    }
+    Ok(())
+}
+
+#[test]
+fn the_lines_of_a_lateral_limit_have_their_place(rt: HostRuntime) -> Result<(), Fail> {
+    let table: [(usize, &[u8], TextFault); 9] = [
+        (1, b"TASK 1", TextFault::Line(9)),
+        (7, b"side 11 left", TextFault::Line(8)),
+        (9, b"side 11 middle", TextFault::Line(9)),
+        (9, b"side 13 left", TextFault::Line(9)),
+        (10, b"side 11 right", TextFault::Hold(HoldFault::Side(1))),
+        (11, b"item AKE10009XX 1", TextFault::Line(11)),
+        (11, b"lateral 0900", TextFault::Line(11)),
+        (11, b"lateral 900\nlateral 900", TextFault::Line(12)),
+        (11, b"lateral 900\nside 51 right", TextFault::Line(12)),
     ];
     for (number, line, fault) in table {
         let got = fault_with(rt.alloc(), number, line, 1)?;
@@ -165,11 +200,11 @@ fn each_fault_of_a_hold_is_named_with_its_index(rt: HostRuntime) -> Result<(), F
 #[test]
 fn each_fault_of_a_task_is_named_with_its_index(rt: HostRuntime) -> Result<(), Fail> {
     let table: [(usize, &[u8], usize, TaskFault); 5] = [
-        (9, b"item AKE10001XX 1000", 49, TaskFault::TooManyItems),
-        (9, b"item AKE10001XX 1000", 2, TaskFault::DuplicateId(1)),
-        (9, b"item AKE10001XX 20001", 1, TaskFault::ItemTooHeavy(0)),
-        (10, b"loose 51 0", 2, TaskFault::LooseTwice(1)),
-        (10, b"loose 51 20001", 1, TaskFault::LooseTooHeavy(0)),
+        (12, b"item AKE10001XX 1000", 61, TaskFault::TooManyItems),
+        (12, b"item AKE10001XX 1000", 2, TaskFault::DuplicateId(1)),
+        (12, b"item AKE10001XX 20001", 1, TaskFault::ItemTooHeavy(0)),
+        (13, b"loose 51 0", 2, TaskFault::LooseTwice(1)),
+        (13, b"loose 51 20001", 1, TaskFault::LooseTooHeavy(0)),
     ];
     for (number, line, times, fault) in table {
         let got = fault_with(rt.alloc(), number, line, times)?;

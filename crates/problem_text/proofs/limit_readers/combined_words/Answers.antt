@@ -1,9 +1,9 @@
 use Rattle.std.proofs.Common.{◌≡◌, ◌++◌, ◌∙◌, length, sym, arith, lit<}
 use Rattle.mass_units.specs.Spelling.{number_text}
 use Rattle.mass_units.proofs.SpellingLemmas.{number_text-avoids}
-use Rattle.problem_text.proofs.CutLemmas.{cut_once}
+use Rattle.text_lines.proofs.CutLemmas.{cut_once}
 use Rattle.std.proofs.lemmas.Bool.Decides.{nat_tests}
-use Rattle.problem_text.proofs.NameLemmas.{length-zero}
+use Rattle.text_lines.proofs.NameLemmas.{length-zero}
 use Rattle.problem_text.proofs.limit_readers.combined_words.Goals as goal
 
 pub returns-in_err-read_number-clause-read_back : goal.returns-in_err-read_number-clause-read_back

@@ -1,8 +1,8 @@
 use Rattle.std.proofs.Common.{◌∙◌, ◌++◌, ap, sym, codes}
 use Rattle.mass_units.specs.Spelling.{number_text}
-use Rattle.problem_text.specs.TaskText.{IsNamed}
-use Rattle.problem_text.specs.WordRuns.{run_text, name_text}
-use Rattle.problem_text.proofs.RunLemmas.{run_text-begins}
+use Rattle.text_lines.specs.Names.{IsNamed}
+use Rattle.text_lines.specs.WordRuns.{run_text, name_text}
+use Rattle.text_lines.proofs.RunLemmas.{run_text-begins}
 use Rattle.problem_text.proofs.LimitLemmas.{names_are_read, combined_line-is, run_is_some, some_in_run}
 use Rattle.problem_text.proofs.limit_readers.read_combined.Goals as goal
 

@@ -1,11 +1,11 @@
 use Rattle.std.proofs.lemmas.Bool.{false≢true}
 use Rattle.std.proofs.Common.{◌∙◌, eq-eqb, ◌++◌, ◌∷◌, [], ap, sym, length}
 use Rattle.std.proofs.lemmas.List.Elements.{All-push}
-use Rattle.problem_text.specs.TaskText.{IsNamed}
-use Rattle.problem_text.specs.PositionNumbers.{byte_of}
-use Rattle.problem_text.specs.WordRuns.{run_text, name_text}
-use Rattle.problem_text.proofs.RunLemmas.{run_again, run_text-push, no_more}
-use Rattle.problem_text.proofs.SectionLemmas.{map-push}
+use Rattle.text_lines.specs.Names.{IsNamed}
+use Rattle.text_lines.specs.Names.{byte_of}
+use Rattle.text_lines.specs.WordRuns.{run_text, name_text}
+use Rattle.text_lines.proofs.RunLemmas.{run_again, run_text-push, no_more}
+use Rattle.text_lines.proofs.SectionLemmas.{map-push}
 use Rattle.problem_text.proofs.LimitLemmas.{names_are_read}
 use Rattle.problem_text.proofs.limit_readers.read_positions.Goals as goal
 

@@ -1,8 +1,8 @@
 use Rattle.std.proofs.Common.{◌≡◌, ◌++◌, ℕ, List, map, length, All}
-use Rattle.problem_text.specs.Cuts.{IsCutAt}
-use Rattle.problem_text.specs.TaskText.{IsNamed}
-use Rattle.problem_text.specs.PositionNumbers.{byte_of}
-use Rattle.problem_text.specs.WordRuns.{run_text, name_text}
+use Rattle.text_lines.specs.Cuts.{IsCutAt}
+use Rattle.text_lines.specs.Names.{IsNamed}
+use Rattle.text_lines.specs.Names.{byte_of}
+use Rattle.text_lines.specs.WordRuns.{run_text, name_text}
 use Rattle.problem_text.proofs.limit_readers.read_positions.Given as goal
 
 abbrev pub invariant-loop-rest : goal.invariant-loop-rest

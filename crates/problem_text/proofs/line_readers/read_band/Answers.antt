@@ -5,7 +5,7 @@ use Rattle.std.specs.Result.{result_ok}
 use Rattle.mass_units.specs.Spelling.{index_text}
 use Rattle.mass_units.proofs.SpellingLemmas.{index_text-avoids}
 use Rattle.problem_text.specs.Reading.{IsBandLine}
-use Rattle.problem_text.proofs.NameLemmas.{none_of}
+use Rattle.text_lines.proofs.NameLemmas.{none_of}
 use Rattle.problem_text.proofs.line_readers.read_band.Goals as goal
 
 pub returns-in_err-low-clause-none : goal.returns-in_err-low-clause-none

@@ -2,7 +2,7 @@ use Rattle.std.proofs.Common.{◌∙◌, ap, sym}
 use Rattle.std.proofs.lemmas.List.{append_cancel_left}
 use Rattle.std.specs.Result.{result_ok}
 use Rattle.mass_units.specs.Spelling.{index_text}
-use Rattle.problem_text.proofs.NameLemmas.{none_when}
+use Rattle.text_lines.proofs.NameLemmas.{none_when}
 use Rattle.problem_text.proofs.line_readers.read_index.Goals as goal
 
 pub returns-clause-none : goal.returns-clause-none

@@ -1,6 +1,6 @@
 use Rattle.std.proofs.Common.{◌∙◌, ◌++◌, ◌∷◌, [], ap, sym, codes}
 use Rattle.mass_units.specs.Spelling.{number_text}
-use Rattle.problem_text.specs.WordRuns.{run_text, name_text}
+use Rattle.text_lines.specs.WordRuns.{run_text, name_text}
 use Rattle.problem_text.proofs.LimitLemmas.{combined_line-is}
 use Rattle.problem_text.proofs.WriterLemmas.{built-3}
 use Rattle.problem_text.proofs.line_writers.push_combined.Goals as goal

@@ -1,5 +1,6 @@
 use Rattle.std.proofs.Common.{◌≡◌, ◌++◌, take}
-use Rattle.problem_text.specs.WordRuns.{run_text, fit_text}
+use Rattle.problem_text.specs.WordRuns.{fit_text}
+use Rattle.text_lines.specs.WordRuns.{run_text}
 use Rattle.problem_text.proofs.line_writers.push_fits.Given as goal
 
 abbrev pub invariant-loop-fit : goal.invariant-loop-fit

@@ -1,5 +1,5 @@
 use Rattle.std.proofs.Common.{◌∙◌, ◌++◌, ◌∷◌, ap}
-use Rattle.problem_text.specs.WordRuns.{name_text}
+use Rattle.text_lines.specs.WordRuns.{name_text}
 use Rattle.problem_text.proofs.WriterLemmas.{run_grows}
 use Rattle.problem_text.proofs.line_writers.push_names.Goals as goal
 

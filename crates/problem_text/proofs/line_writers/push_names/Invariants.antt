@@ -1,5 +1,5 @@
 use Rattle.std.proofs.Common.{◌≡◌, ◌++◌, take}
-use Rattle.problem_text.specs.WordRuns.{run_text, name_text}
+use Rattle.text_lines.specs.WordRuns.{run_text, name_text}
 use Rattle.problem_text.proofs.line_writers.push_names.Given as goal
 
 abbrev pub invariant-loop-number : goal.invariant-loop-number

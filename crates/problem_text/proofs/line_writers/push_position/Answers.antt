@@ -1,7 +1,8 @@
 use Rattle.std.proofs.Common.{◌∙◌, ◌++◌, ◌∷◌, [], ap, sym}
 use Rattle.mass_units.specs.Spelling.{number_text, signed_text}
 use Rattle.problem_text.specs.TaskText.{position_word}
-use Rattle.problem_text.specs.WordRuns.{run_text, fit_text}
+use Rattle.problem_text.specs.WordRuns.{fit_text}
+use Rattle.text_lines.specs.WordRuns.{run_text}
 use Rattle.problem_text.proofs.PositionLemmas.{position_line-is}
 use Rattle.problem_text.proofs.WriterLemmas.{built-5}
 use Rattle.problem_text.proofs.line_writers.push_position.Goals as goal

@@ -2,7 +2,7 @@ use Rattle.std.proofs.Common.{◌≡◌, ◌∷◌, ◌++◌, ◌∙◌, sym, re
 use Rattle.std.proofs.lemmas.List.{append_assoc}
 use Rattle.mass_units.specs.Spelling.{number_text}
 use Rattle.mass_units.proofs.SpellingLemmas.{number_text-avoids}
-use Rattle.problem_text.proofs.CutLemmas.{cut_once}
+use Rattle.text_lines.proofs.CutLemmas.{cut_once}
 use Rattle.problem_text.proofs.WordLemmas.{kind_avoids}
 use Rattle.problem_text.proofs.position_reader.next_fit.Goals as goal
 

@@ -1,5 +1,5 @@
 use Rattle.std.proofs.Common.{◌∷◌, ◌++◌, ◌∙◌, sym}
-use Rattle.problem_text.proofs.CutLemmas.{cut_once}
+use Rattle.text_lines.proofs.CutLemmas.{cut_once}
 use Rattle.problem_text.specs.TaskText.{position_word}
 use Rattle.problem_text.proofs.PositionLemmas.{word_without_space, word_once}
 use Rattle.problem_text.proofs.position_reader.position_words.Goals as goal

@@ -3,8 +3,9 @@ use Rattle.std.proofs.lemmas.Bool.{false≢true}
 use Rattle.std.proofs.lemmas.Bool.Decides.{nat_tests}
 use Rattle.std.proofs.Common.{◌≡◌, ◌∙◌, true, eq-eqb, ◌++◌, ◌∷◌, [], ap, sym, arith, length}
 use Rattle.std.proofs.lemmas.List.Elements.{All-push, All-same}
-use Rattle.problem_text.specs.WordRuns.{run_text, fit_text, IsSpelledFit}
-use Rattle.problem_text.proofs.RunLemmas.{run_again, run_text-push, no_more, all_read}
+use Rattle.problem_text.specs.WordRuns.{fit_text, IsSpelledFit}
+use Rattle.text_lines.specs.WordRuns.{run_text}
+use Rattle.text_lines.proofs.RunLemmas.{run_again, run_text-push, no_more, all_read}
 use Rattle.problem_text.proofs.PositionLemmas.{fits_are_read}
 use Rattle.problem_text.proofs.position_reader.read_fits.Goals as goal
 

@@ -1,6 +1,7 @@
 use Rattle.std.proofs.Common.{◌≡◌, ◌++◌, length, All}
-use Rattle.problem_text.specs.Cuts.{IsCutAt}
-use Rattle.problem_text.specs.WordRuns.{run_text, fit_text, IsSpelledFit}
+use Rattle.text_lines.specs.Cuts.{IsCutAt}
+use Rattle.problem_text.specs.WordRuns.{fit_text, IsSpelledFit}
+use Rattle.text_lines.specs.WordRuns.{run_text}
 use Rattle.problem_text.proofs.position_reader.read_fits.Given as goal
 
 abbrev pub invariant-loop-rest : goal.invariant-loop-rest

@@ -2,9 +2,10 @@ use Rattle.std.proofs.Common.{◌∙◌, lit<}
 use Rattle.std.proofs.lemmas.Option.{IfSome_then}
 use Rattle.mass_units.specs.Spelling.{number_text, signed_text}
 use Rattle.mass_units.proofs.SpellingLemmas.{number_text-avoids, signed_text-avoids}
-use Rattle.problem_text.specs.WordRuns.{run_text, fit_text}
+use Rattle.problem_text.specs.WordRuns.{fit_text}
+use Rattle.text_lines.specs.WordRuns.{run_text}
 use Rattle.problem_text.proofs.WordLemmas.{name_avoids}
-use Rattle.problem_text.proofs.NameLemmas.{none_unless}
+use Rattle.text_lines.proofs.NameLemmas.{none_unless}
 use Rattle.problem_text.proofs.PositionLemmas.{position_line-is, position_found, spelled_fits, fits_begin}
 use Rattle.problem_text.proofs.position_reader.read_position.Goals as goal
 

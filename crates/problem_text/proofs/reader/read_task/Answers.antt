@@ -1,6 +1,7 @@
 use Rattle.std.proofs.Common.{sym, subst}
 use Rattle.hold_limits.specs.Problem.{Problem}
 use Rattle.hold_limits.specs.Faults.{IsWellSpelled}
+use Rattle.problem_text.specs.Reading.{text_fault}
 use Rattle.problem_text.specs.Parts.{problem_of_parts}
 use Rattle.problem_text.proofs.KeepLemmas.{well_spelled, task_is_read, fault_is_told, lawful_is_read}
 use Rattle.std.proofs.lemmas.Result.{err_from_is_err_and}
@@ -33,4 +34,4 @@ returns-clause-complete c =
 pub returns-in_err-read_parts-clause-complete : goal.returns-in_err-read_parts-clause-complete
 returns-in_err-read_parts-clause-complete c =
     let p = err_from_is_err_and c.from_residual.result c.from_residual.ensures.1 in
-    rw (p.1, p.2) (λ t s h k. lawful_not_refused c.args.text.now t c.in_err-read_parts.field-0.0 s h k c.in_err-read_parts.ensures.refused)
+    rw (p.1, p.2) (λ t s h k. lawful_not_refused c.args.text.now t (text_fault c.in_err-read_parts.field-0.0) s h k c.in_err-read_parts.ensures.refused)

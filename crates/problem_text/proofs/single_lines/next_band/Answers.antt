@@ -1,6 +1,6 @@
 use Rattle.std.proofs.lemmas.Result.{err_from_is_err_and}
 use Rattle.problem_text.specs.Reading.{IsBandLine}
-use Rattle.problem_text.proofs.SectionLemmas.{stopped_early, stopped_at_line}
+use Rattle.text_lines.proofs.SectionLemmas.{stopped_early, stopped_at_line}
 use Rattle.problem_text.proofs.single_lines.next_band.Goals as goal
 
 pub returns-in_err-next_line-clause-refused : goal.returns-in_err-next_line-clause-refused

@@ -1,5 +1,6 @@
 use Rattle.std.proofs.Common.{◌≡◌, ◌++◌, take, map}
-use Rattle.problem_text.specs.TaskText.{text_of, loose_line}
+use Rattle.problem_text.specs.TaskText.{loose_line}
+use Rattle.text_lines.specs.Lines.{text_of}
 use Rattle.problem_text.proofs.writer.push_all_loose.Given as goal
 
 abbrev pub invariant-loop-load : goal.invariant-loop-load

@@ -1,5 +1,6 @@
 use Rattle.std.proofs.Common.{◌≡◌, ◌++◌, take, map}
-use Rattle.problem_text.specs.TaskText.{text_of, exclude_line}
+use Rattle.problem_text.specs.TaskText.{exclude_line}
+use Rattle.text_lines.specs.Lines.{text_of}
 use Rattle.problem_text.proofs.writer.push_excludes.Given as goal
 
 abbrev pub invariant-loop-pair : goal.invariant-loop-pair

@@ -1,5 +1,6 @@
 use Rattle.std.proofs.Common.{◌≡◌, ◌++◌, take, map, All}
-use Rattle.problem_text.specs.TaskText.{text_of, item_line}
+use Rattle.problem_text.specs.TaskText.{item_line}
+use Rattle.text_lines.specs.Lines.{text_of}
 use Rattle.hold_parts.specs.declared.parts.Item.{Item}
 use Rattle.hold_parts.specs.Spellings.{IsUldId}
 use Rattle.problem_text.proofs.writer.push_items.Given as goal

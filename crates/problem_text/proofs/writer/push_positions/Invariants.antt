@@ -1,5 +1,6 @@
 use Rattle.std.proofs.Common.{◌≡◌, ◌++◌, take, map, All}
-use Rattle.problem_text.specs.TaskText.{text_of, position_line}
+use Rattle.problem_text.specs.TaskText.{position_line}
+use Rattle.text_lines.specs.Lines.{text_of}
 use Rattle.hold_parts.specs.declared.parts.Position.{Position}
 use Rattle.hold_parts.specs.Spellings.{IsName}
 use Rattle.problem_text.proofs.writer.push_positions.Given as goal

@@ -1,0 +1,7 @@
+use Rattle.std.proofs.Common.{◌≡◌, ◌++◌, take, map}
+use Rattle.problem_text.specs.TaskText.{side_line}
+use Rattle.text_lines.specs.Lines.{text_of}
+use Rattle.problem_text.proofs.writer.push_sides.Given as goal
+
+abbrev pub invariant-loop-side : goal.invariant-loop-side
+invariant-loop-side l = l.text.items ≡ l.initial.text.items ++ text_of (map (side_line l.hold.positions) (take l.side-index l.sides))

@@ -1,0 +1,7 @@
+pub mod CutLemmas
+pub mod WordLemmas
+pub mod NameLemmas
+pub mod RunLemmas
+pub mod SectionLemmas
+pub mod RunOfLines
+pub mod GrammarLemmas

@@ -1,0 +1,158 @@
+-- a name means the first position that has it
+use Rattle.std.proofs.Common.{◌≡◌, ◌≢◌, ℕ, ◌+◌, ◌<◌, ◌≤◌, true, false, pos, List, [], ◌∷◌, ◌++◌, length, take, get_or, Option, Some, None, IfSome, IfNone, Bool, not, is_some, option_map, cond, refl, sym, ap, ◌∙◌, arith, All}
+use Rattle.std.specs.Prelude.{position, bytes_eq}
+use Rattle.std.specs.List.{position_or_len}
+use Rattle.std.specs.Option.{option_map_or, option_or}
+use Rattle.std.proofs.lemmas.Bool.{true≢false}
+use Rattle.std.proofs.lemmas.List.{get_or-take, length-take-le, take_more}
+use Rattle.std.proofs.lemmas.List.Quantifiers.{position-Some}
+use Rattle.std.proofs.lemmas.Option.{slice_get-get_or, same_Some, none-some}
+use Rattle.std.proofs.lemmas.Slice.Eq.{bytes_eq-Decides}
+use Rattle.hold_parts.specs.declared.parts.Position.{Position}
+use Rattle.hold_limits.proofs.FaultLemmas.{position-none}
+use Rattle.text_lines.specs.Cuts.{Avoids}
+use Rattle.text_lines.specs.Names.{IsNamed}
+use Rattle.hold_limits.specs.Layout.{name_at}
+use Rattle.text_lines.specs.Names.{byte_of, number_named}
+use Rattle.std.proofs.lemmas.Grind.{common_steps}
+use Rattle.std.proofs.lemmas.List.Folds.{position_or_len_push}
+use Rattle.std.proofs.lemmas.List.Sums.{prefix_len-le-length}
+use Rattle.std.proofs.lemmas.List.{length-append}
+
+-- what no answer depends on
+pub some_position : Position
+some_position = record { name = []; compartment = 0; influence = pos 0; bulk = false; fits = [] }
+
+pub name_at-is : (ps : List Position) (q : ℕ) (d : Position) → q < length ps → name_at ps q ≡ (get_or ps q d).name
+name_at-is ps q d within = ap (λ o. option_map_or (λ (p : Position). p.name) o []) (slice_get-get_or ps q d within)
+
+pub name_at-avoids : (k : ℕ) (ps : List Position) (q : ℕ) → All (λ (p : Position). Avoids k p.name) ps → q < length ps → Avoids k (name_at ps q)
+name_at-avoids k ps q clear within = rw (name_at-is ps q some_position within) (clear q some_position within)
+
+-- an earlier position has another name
+earlier_differs : (ps : List Position) (p q : ℕ) → p < q → IsNamed ps q → name_at ps p ≢ name_at ps q
+earlier_differs ps p q less named e =
+    let within : p < length ps = omega (arith, named.known) in
+    let short : p < length (take q ps) = rw (length-take-le q ps (omega (arith, named.known))) less in
+    let there : (get_or (take q ps) p some_position).name ≡ name_at ps p = ap (λ (x : Position). x.name) (get_or-take q ps p some_position less) ∙ sym (name_at-is ps p some_position within) in
+    named.first p some_position short (there ∙ e)
+
+pub named_once : (ps : List Position) (p q : ℕ) → IsNamed ps p → IsNamed ps q → name_at ps p ≡ name_at ps q → p ≡ q
+named_once ps p q s t e =
+    let up : p < q → ⊥ = λ less. earlier_differs ps p q less t e in
+    let down : q < p → ⊥ = λ less. earlier_differs ps q p less s (sym e) in
+    omega (arith, up, down)
+
+-- the default for a missing element does not matter where there is an element
+same_default : (ps : List Position) (k : ℕ) (d : Position) → k < length ps → get_or ps k d ≡ get_or ps k some_position
+same_default ps k d within = same_Some _ _ (sym (slice_get-get_or ps k d within) ∙ slice_get-get_or ps k some_position within)
+
+same_true : (a b : List ℕ) → bytes_eq a b ≡ true → a ≡ b
+same_true a b h = (bytes_eq-Decides a b).0 h
+
+pub differ : (a b : List ℕ) (unequal : Bool) → unequal ≡ true → unequal ≡ not (bytes_eq a b) → a ≢ b
+differ a b unequal holds is e = true≢false (sym holds ∙ is ∙ ap not ((bytes_eq-Decides a b).1 e))
+
+pub number_named-found : (ps : List Position) (name : List ℕ) (q : ℕ) → number_named ps name ≡ Some q → IsNamed ps q × (name ≡ name_at ps q)
+number_named-found ps name q e =
+    let p = λ (p : Position). bytes_eq p.name name in
+    let at = position-Some p ps q some_position e in
+    let here : (get_or ps q some_position).name ≡ name = same_true _ _ at.1 in
+    let is : name_at ps q ≡ name = name_at-is ps q some_position at.0 ∙ here in (
+      record {
+        known = at.0;
+        first = λ k d l.
+            let less : k < q = omega (arith, l, length-take-le q ps (omega (arith, at.0))) in
+            let kept = ap (λ (x : Position). x.name) (get_or-take q ps k d less ∙ same_default ps k d (omega (arith, at.0))) in
+            λ same. true≢false (sym ((bytes_eq-Decides (get_or ps k some_position).name name).1 (sym kept ∙ same ∙ is)) ∙ at.2 k less);
+      },
+      sym is,
+    )
+
+pub number_named-none : (ps : List Position) (name : List ℕ) → number_named ps name ≡ None → (q : ℕ) → IsNamed ps q → name ≢ name_at ps q
+number_named-none ps name e q named same =
+    let p = λ (p : Position). bytes_eq p.name name in
+    let no : bytes_eq (get_or ps q some_position).name name ≡ false = position-none p ps e q some_position named.known in
+    true≢false (sym ((bytes_eq-Decides (get_or ps q some_position).name name).1 (sym (name_at-is ps q some_position named.known) ∙ sym same)) ∙ no)
+
+pub none_if : {X : Type 0} (r : Option X) (P : Type 0) → P → IfNone r P
+none_if None P h = h
+none_if (Some x) P h = tt
+
+-- where each value that may be meant would have been found, None says that there is none
+pub none_unless : {X : Type 0} {P Q : X → Type 0} (r : Option X) → ((x : X) → P x → Q x → r ≡ Some x) → IfNone r ((x : X) → P x → Q x → ⊥)
+none_unless None f = λ x p q. none-some x (f x p q)
+none_unless (Some y) f = tt
+
+pub none_when : {X P : Type 0} (r : Option X) → (P → (x : X) × (r ≡ Some x)) → IfNone r (P → ⊥)
+none_when None f = λ p. let found = f p in none-some found.0 found.1
+none_when (Some y) f = tt
+
+pub none_of : {X P : Type 0} (r : Option X) → (P → ⊥) → IfNone r (P → ⊥)
+none_of None f = f
+none_of (Some y) f = tt
+
+pub none_so : {X Y : Type 0} {P Q : X → Type 0} (r : Option Y) → ((x : X) → P x → Q x → ⊥) → IfNone r ((x : X) → P x → Q x → ⊥)
+none_so None f = f
+none_so (Some y) f = tt
+
+pub length-zero : {X : Type 0} (xs : List X) → length xs ≡ 0 → xs ≡ []
+length-zero [] e = refl
+length-zero (x ∷ xs) e = absurd (omega arith)
+
+-- what the table returns, from what it contains
+number_found : (ps : List Position) (name : List ℕ) (r o : Option ℕ) → number_named ps name ≡ o → r ≡ option_map byte_of o → IfSome r (λ q. (number : ℕ) × IsNamed ps number × (name ≡ name_at ps number) × (q ≡ byte_of number))
+number_found ps name r None e h = rw h tt
+number_found ps name r (Some q) e h = let there = number_named-found ps name q e in rw h (q, there.0, there.1, refl)
+
+pub table-found : (ps : List Position) (name : List ℕ) (r : Option ℕ) → r ≡ option_map byte_of (number_named ps name) → IfSome r (λ q. (number : ℕ) × IsNamed ps number × (name ≡ name_at ps number) × (q ≡ byte_of number))
+table-found ps name r h = number_found ps name r (number_named ps name) refl h
+
+number_none : (ps : List Position) (name : List ℕ) (r o : Option ℕ) → number_named ps name ≡ o → r ≡ option_map byte_of o → IfNone r ((number : ℕ) → IsNamed ps number → name ≢ name_at ps number)
+number_none ps name r None e h = rw h (number_named-none ps name e)
+number_none ps name r (Some q) e h = rw h tt
+
+pub table-none : (ps : List Position) (name : List ℕ) (r : Option ℕ) → r ≡ option_map byte_of (number_named ps name) → IfNone r ((number : ℕ) → IsNamed ps number → name ≢ name_at ps number)
+table-none ps name r h = number_none ps name r (number_named ps name) refl h
+
+-- one position more
+position-push : (p : Position → Bool) (xs : List Position) (y : Position) (i : ℕ) → length xs ≡ i → position_or_len p xs ≤ length xs → position p (xs ++ y ∷ []) ≡ option_or (position p xs) (cond (p y) (Some i) None)
+position-push p xs y i long few = grind (arith, common_steps, position_or_len_push, length-append, few)
+
+pub number_named-more : (ps : List Position) (i : ℕ) (d : Position) (name : List ℕ) → i < length ps → number_named (take (i + 1) ps) name ≡ option_or (number_named (take i ps) name) (cond (bytes_eq (get_or ps i d).name name) (Some i) None)
+number_named-more ps i d name within =
+    let p : Position → Bool = λ (p : Position). bytes_eq p.name name in
+    let long : length (take i ps) ≡ i = length-take-le i ps (omega arith) in
+    let few : position_or_len p (take i ps) ≤ length (take i ps) = prefix_len-le-length (λ x. not (p x)) (take i ps) in
+    rw (take_more ps i d within) (position-push p (take i ps) (get_or ps i d) i long few)
+
+table_new : (m found : Option ℕ) (same : Bool) (i : ℕ) → (same ≡ true → found ≡ None) → m ≡ option_map byte_of found → cond same (Some (byte_of i)) m ≡ option_map byte_of (option_or found (cond same (Some i) None))
+table_new m found true i none e = rw (none refl) refl
+table_new m None false i none e = e
+table_new m (Some q) false i none e = e
+
+table_old : (m found : Option ℕ) (same : Bool) (i : ℕ) → (same ≡ true → found ≡ None → ⊥) → m ≡ option_map byte_of found → m ≡ option_map byte_of (option_or found (cond same (Some i) None))
+table_old m None true i some e = absurd (some refl refl)
+table_old m (Some q) true i some e = e
+table_old m None false i some e = e
+table_old m (Some q) false i some e = e
+
+none_from : (o : Option ℕ) → is_some (option_map byte_of o) ≡ false → o ≡ None
+none_from None e = refl
+none_from (Some q) e = absurd (true≢false e)
+
+some_from : (o : Option ℕ) → is_some (option_map byte_of o) ≡ true → o ≡ None → ⊥
+some_from None e n = true≢false (sym e)
+some_from (Some q) e n = absurd (cc)
+
+-- the step of the table where the name is new, and where an earlier position has it
+pub table-more : (ps : List Position) (i : ℕ) (d : Position) (bs name : List ℕ) (known m : Option ℕ) → i < length ps → bs ≡ (get_or ps i d).name → known ≡ option_map byte_of (number_named (take i ps) bs) → is_some known ≡ false → m ≡ option_map byte_of (number_named (take i ps) name) → cond (bytes_eq bs name) (Some (byte_of i)) m ≡ option_map byte_of (number_named (take (i + 1) ps) name)
+table-more ps i d bs name known m within here old none e =
+    let absent : number_named (take i ps) bs ≡ None = none_from _ (ap is_some (sym old) ∙ none) in
+    let step = table_new m (number_named (take i ps) name) (bytes_eq bs name) i (λ same. ap (number_named (take i ps)) (sym (same_true bs name same)) ∙ absent) e in
+    step ∙ ap (λ n. option_map byte_of (option_or (number_named (take i ps) name) (cond (bytes_eq n name) (Some i) None))) here ∙ ap (option_map byte_of) (sym (number_named-more ps i d name within))
+
+pub table-same : (ps : List Position) (i : ℕ) (d : Position) (bs name : List ℕ) (known m : Option ℕ) → i < length ps → bs ≡ (get_or ps i d).name → known ≡ option_map byte_of (number_named (take i ps) bs) → is_some known ≡ true → m ≡ option_map byte_of (number_named (take i ps) name) → m ≡ option_map byte_of (number_named (take (i + 1) ps) name)
+table-same ps i d bs name known m within here old some e =
+    let step = table_old m (number_named (take i ps) name) (bytes_eq bs name) i (λ same none. some_from _ (ap is_some (sym old) ∙ some) (ap (number_named (take i ps)) (same_true bs name same) ∙ none)) e in
+    step ∙ ap (λ n. option_map byte_of (option_or (number_named (take i ps) name) (cond (bytes_eq n name) (Some i) None))) here ∙ ap (option_map byte_of) (sym (number_named-more ps i d name within))

@@ -1,0 +1,41 @@
+-- which lines may come from some point of a text on, and why a text does not go on with such lines
+use Rattle.std.specs.Prelude.{◌≡◌, ℕ, ◌+◌, List, [], ◌∷◌, ◌++◌, length, map, All}
+use Rattle.text_lines.specs.Cuts.{Avoids}
+use Rattle.text_lines.specs.Lines.{text_of}
+use Rattle.text_lines.specs.declared.fault.LineFault.{LineFault}
+use Rattle.text_lines.specs.declared.fault.LineFault.TheVariants.{Line, NoEnd, NoMemory}
+
+-- one line that states an entry of its kind, and then lines that may follow that entry
+pub record HasOne {X : Type 0} (line : X → List ℕ) (IsRight : X → Type 0) (Follows : X → List (List ℕ) → Type 0) (lines : List (List ℕ)) : Type 0 where
+  pub said : X
+  pub right : IsRight said
+  pub more : List (List ℕ)
+  pub follows : Follows said more
+  pub are : lines ≡ line said ∷ more
+
+-- any number of lines that state entries of one kind, and then lines that may follow those entries
+pub record HasRun {X : Type 0} (line : X → List ℕ) (IsRight : X → Type 0) (Follows : List X → List (List ℕ) → Type 0) (lines : List (List ℕ)) : Type 0 where
+  pub said : List X
+  pub right : All IsRight said
+  pub more : List (List ℕ)
+  pub follows : Follows said more
+  pub are : lines ≡ map line said ++ more
+
+-- lines that go on with these make lines of the kind
+pub record Begins (IsKind : List (List ℕ) → Type 0) (done : List (List ℕ)) : Type 0 where
+  pub more : List (List ℕ)
+  pub kind : IsKind (done ++ more)
+
+-- why a text, whose first line has this number, is not made of lines of the kind
+pub data Fails (IsKind : List (List ℕ) → Type 0) (text : List ℕ) (number : ℕ) : LineFault → Type 0 where
+  -- the lines before this one may begin such lines, and with this one they may not
+  wrong_line : (done : List (List ℕ)) (line after : List ℕ) → text ≡ text_of done ++ (line ++ 10 ∷ after) → Avoids 10 line
+      → Begins IsKind done → (Begins IsKind (done ++ line ∷ []) → ⊥) → Fails IsKind text number (Line (length done + number))
+  -- there are bytes after the last line
+  more_bytes : (done : List (List ℕ)) (byte : ℕ) (after : List ℕ) → text ≡ text_of done ++ byte ∷ after
+      → IsKind done → Fails IsKind text number (Line (length done + number))
+  -- the text stops before the last line
+  early_end : (done : List (List ℕ)) (rest : List ℕ) → text ≡ text_of done ++ rest → Avoids 10 rest
+      → Begins IsKind done → (IsKind done → ⊥) → Fails IsKind text number NoEnd
+  -- running out of memory has no cause in the text
+  no_memory : Fails IsKind text number NoMemory

@@ -1,0 +1,6 @@
+pub mod Cuts
+pub mod Lines
+pub mod Names
+pub mod WordRuns
+pub mod Sections
+pub mod Grammar
