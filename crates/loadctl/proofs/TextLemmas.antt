@@ -9,8 +9,8 @@ use Rattle.hold_limits.specs.Problem.{Problem}
 use Rattle.hold_limits.specs.BranchOrder.{ordered}
 use Rattle.hold_limits.specs.Placement.{Placed, placed, take_off_index, distance}
 use Rattle.hold_limits.proofs.PlacedLemmas.{length-placed, placed-at}
-use Rattle.problem_text.specs.TaskText.{line_of, text_of}
-use Rattle.loadctl.specs.ReplyText.{one_line, place_line, place_lines, plan_text}
+use Rattle.text_lines.specs.Lines.{line_of, text_of}
+use Rattle.loadctl.specs.ReplyText.{one_line, place_line, place_lines, difference_lines, plan_text}
 
 pub text_of-append : (a b : List (List ℕ)) → text_of (a ++ b) ≡ text_of a ++ text_of b
 text_of-append [] b = refl
@@ -36,12 +36,13 @@ place_lines-more t path rank item short within there =
 -- the plan's text, part by part
 pub plan_text-is : (t : Problem) (path : List ℕ)
     → plan_text t path
-    ≡ one_line (codes "PLAN" ∷ []) ++ text_of (place_lines t (placed t path)) ++ one_line (codes "index" ∷ index_text (take_off_index t path) ∷ []) ++ one_line (codes "distance" ∷ index_text (pos (distance t path)) ∷ [])
+    ≡ one_line (codes "PLAN" ∷ []) ++ text_of (place_lines t (placed t path)) ++ one_line (codes "index" ∷ index_text (take_off_index t path) ∷ []) ++ one_line (codes "distance" ∷ index_text (pos (distance t path)) ∷ []) ++ text_of (difference_lines t path)
 plan_text-is t path =
     let plan : List (List ℕ) = codes "PLAN" ∷ [] in
     let places = place_lines t (placed t path) in
     let index = line_of (codes "index" ∷ index_text (take_off_index t path) ∷ []) in
     let far = line_of (codes "distance" ∷ index_text (pos (distance t path)) ∷ []) in
-    text_of-append (plan ++ places) (index ∷ far ∷ [])
+    text_of-append (plan ++ places ++ (index ∷ far ∷ [])) (difference_lines t path)
+    ∙ ap (λ a. a ++ text_of (difference_lines t path)) (text_of-append (plan ++ places) (index ∷ far ∷ [])
     ∙ ap₂ (λ a b. a ++ b) (text_of-append plan places) (text_of-append (index ∷ []) (far ∷ []))
-    ∙ sym (append_assoc (text_of plan ++ text_of places) (text_of (index ∷ [])) (text_of (far ∷ [])))
+    ∙ sym (append_assoc (text_of plan ++ text_of places) (text_of (index ∷ [])) (text_of (far ∷ []))))

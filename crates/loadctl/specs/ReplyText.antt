@@ -1,14 +1,16 @@
 -- What the program prints.
 use Rattle.std.specs.Prelude.{◌≡◌, ℕ, pos, List, [], ◌∷◌, ◌++◌, map, codes}
-use Rattle.mass_units.specs.Spelling.{number_text, index_text}
+use Rattle.mass_units.specs.Spelling.{number_text, signed_text, index_text}
 use Rattle.hold_limits.specs.declared.fault.HoldFault.{HoldFault}
 use Rattle.hold_limits.specs.declared.fault.HoldFault.TheVariants as hold
 use Rattle.hold_limits.specs.declared.fault.TaskFault.{TaskFault}
 use Rattle.hold_limits.specs.declared.fault.TaskFault.TheVariants as task
 use Rattle.hold_limits.specs.Layout.{Layout, name_at}
 use Rattle.hold_limits.specs.Problem.{Problem}
-use Rattle.hold_limits.specs.Placement.{Placed, placed, take_off_index, distance}
-use Rattle.problem_text.specs.TaskText.{line_of, text_of}
+use Rattle.hold_limits.specs.Placement.{Placed, placed, take_off_index, distance, lateral_difference}
+use Rattle.std.specs.Option.{option_map_or}
+use Rattle.hold_parts.specs.declared.parts.Lateral.{Lateral}
+use Rattle.text_lines.specs.Lines.{line_of, text_of}
 use Rattle.problem_text.specs.declared.fault.TextFault.{TextFault}
 use Rattle.problem_text.specs.declared.fault.TextFault.TheVariants as text
 
@@ -23,12 +25,19 @@ place_line hold p = line_of (codes "place" ∷ p.0.id ∷ name_at hold.positions
 abbrev pub place_lines : Problem → List Placed → List (List ℕ)
 place_lines t containers = map (place_line t.hold) containers
 
--- a plan: its containers in branch order with their positions, the take-off index and its distance from the ideal
+-- `lateral DIFFERENCE`, in kilograms, where the hold has a lateral limit
+abbrev pub difference_lines : Problem → List ℕ → List (List ℕ)
+difference_lines t path =
+    option_map_or (λ (limit : Lateral). line_of (codes "lateral" ∷ signed_text (lateral_difference t path) ∷ []) ∷ []) t.hold.lateral []
+
+-- a plan: its containers in branch order with their positions, the take-off index, its distance from the ideal, and the
+-- lateral difference
 abbrev pub plan_lines : Problem → List ℕ → List (List ℕ)
 plan_lines t path =
     (codes "PLAN" ∷ [])
     ++ place_lines t (placed t path)
     ++ (line_of (codes "index" ∷ index_text (take_off_index t path) ∷ []) ∷ line_of (codes "distance" ∷ index_text (pos (distance t path)) ∷ []) ∷ [])
+    ++ difference_lines t path
 
 abbrev pub plan_text : Problem → List ℕ → List ℕ
 plan_text t path = text_of (plan_lines t path)
@@ -57,6 +66,7 @@ hold_fault_number hold.TooMany = 6
 hold_fault_number (hold.Exclude at) = 7
 hold_fault_number (hold.Combined at) = 8
 hold_fault_number (hold.Cumulative at) = 9
+hold_fault_number (hold.Side at) = 10
 
 abbrev pub task_fault_number : TaskFault → ℕ
 task_fault_number task.TooManyItems = 1

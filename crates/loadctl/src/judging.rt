@@ -32,6 +32,7 @@ fn number_of_hold_fault(fault: HoldFault) -> u64
         HoldFault::Exclude(_) => 7,
         HoldFault::Combined(_) => 8,
         HoldFault::Cumulative(_) => 9,
+        HoldFault::Side(_) => 10,
     }
 }
 

@@ -1,14 +1,14 @@
 //! The texts that the program prints, line by line.
 
-ghost use Rattle.std.specs.Prelude.{◌≡◌, ◌++◌, ◌∷◌, [], ◌<◌, ◌≤◌, ◌^◌, pos, length, take, codes, OnOk, IfOk};
-ghost use Rattle.mass_units.specs.Spelling.{index_text};
+ghost use Rattle.std.specs.Prelude.{◌≡◌, ◌++◌, ◌∷◌, [], ◌<◌, ◌≤◌, ◌^◌, pos, unsigned_abs, length, take, codes, OnOk, IfOk};
+ghost use Rattle.mass_units.specs.Spelling.{signed_text, index_text};
 ghost use Rattle.hold_limits.specs.Placement.{IsSound, placed};
-ghost use Rattle.problem_text.specs.TaskText.{text_of};
-ghost use Rattle.loadctl.specs.ReplyText.{one_line, place_lines, plan_text, budget_text, input_text};
+ghost use Rattle.text_lines.specs.Lines.{text_of};
+ghost use Rattle.loadctl.specs.ReplyText.{one_line, place_lines, difference_lines, plan_text, budget_text, input_text};
 
 use desk_base::NoMemory;
-use hold_limits::{Path, Task, outcome};
-use mass_units::{Ticks, write_number, write_ticks5};
+use hold_limits::{Path, Task, lateral_of, outcome};
+use mass_units::{Ticks, write_number, write_signed, write_ticks5};
 use std::alloc::Global;
 
 /// A line of one word.
@@ -108,8 +108,55 @@ fn ticks_of(distance: u64) -> Ticks
     Ticks(distance as i64)
 }
 
-/// The plan of a sound path: a line for each container in branch order, the take-off index, and its distance
-/// from the ideal index.
+/// Appends `WORD KILOGRAMS`.
+fn push_mass_line(
+    alloc: Global,
+    text: &mut Vec<u8>,
+    word: &[u8],
+    kilograms: i32,
+) -> Result<(), NoMemory>
+    ensures { OnOk result (text.new.items
+        ≡ text.old.items ++ one_line (word.now ∷ signed_text kilograms ∷ [])) }
+{
+    text.extend_from_slice(word)?;
+    text.push(b' ')?;
+    write_signed(alloc, kilograms, text)?;
+    text.push(b'\n')?;
+    Ok(())
+}
+
+/// A lateral difference, in kilograms, as a number of 32 bits.
+fn kilograms_of(difference: i64) -> i32
+    requires { unsigned_abs difference < 2 ^ 31 }
+    ensures { result ≡ difference }
+{
+    difference as i32
+}
+
+/// Appends `lateral DIFFERENCE`, where the hold has a lateral limit.
+fn push_difference(
+    alloc: Global,
+    text: &mut Vec<u8>,
+    task: &Task,
+    path: &Path,
+) -> Result<(), NoMemory>
+    requires { IsSound task.now path.now.items }
+    ensures { OnOk result (text.new.items
+        ≡ text.old.items ++ text_of (difference_lines task.now path.now.items)) }
+{
+    if task.hold().lateral().is_some() {
+        push_mass_line(
+            alloc,
+            text,
+            b"lateral",
+            kilograms_of(lateral_of(task, path)),
+        )?;
+    }
+    Ok(())
+}
+
+/// The plan of a sound path: a line for each container in branch order, the take-off index, its distance from the
+/// ideal index, and the lateral difference where the hold limits it.
 pub fn plan_of(alloc: Global, task: &Task, path: &Path) -> Result<Vec<u8>, NoMemory>
     requires { IsSound task.now path.now.items }
     ensures { IfOk result (λ text. text.items ≡ plan_text task.now path.now.items) }
@@ -119,5 +166,6 @@ pub fn plan_of(alloc: Global, task: &Task, path: &Path) -> Result<Vec<u8>, NoMem
     push_place_lines(&mut text, task, path.as_slice())?;
     push_index_line(alloc, &mut text, b"index", take_off)?;
     push_index_line(alloc, &mut text, b"distance", ticks_of(distance))?;
+    push_difference(alloc, &mut text, task, path)?;
     Ok(text)
 }

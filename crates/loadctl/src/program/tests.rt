@@ -73,6 +73,31 @@ ideal 46.40000 46.40000
 END
 ";
 
+const SIDED: &str = "TASK 2
+position 11 1 -600 AKE 1500
+position 12 1 -400 AKE 1500
+position 41 4 400 AKE 1500
+position 42 4 600 AKE 1500
+";
+
+const SIDES: &str = "side 11 right
+side 12 left
+side 41 left
+side 42 right
+";
+
+const FALLING_SIDES: &str = "side 12 left
+side 11 right
+";
+
+const SIDED_PLAN: &str = "PLAN
+place AKE10001XX 12
+place AKE10002XX 42
+index 50.80000
+distance 0.80000
+lateral -200
+";
+
 const PLAN: &str = "PLAN
 place AKE10001XX 12
 place AKE10002XX 41
@@ -175,6 +200,39 @@ fn worked_tasks_are_answered(rt: HostRuntime) -> Result<(), Fail> {
         ),
         // Two positions that exclude each other.
         (place, &[FORWARD, ITEMS, INDICES], 4, "NONE\n"),
+    ];
+    check_rows(&rt, rt.alloc(), &rows)
+}
+
+#[test]
+fn a_lateral_limit_is_kept(rt: HostRuntime) -> Result<(), Fail> {
+    let place: &[&str] = &["place", "t"];
+    let rows: [Row<'_>; 4] = [
+        (
+            place,
+            &[SIDED, SIDES, "lateral 500\n", ITEMS, INDICES],
+            0,
+            SIDED_PLAN,
+        ),
+        // The limit met exactly, and one kilogram less.
+        (
+            place,
+            &[SIDED, SIDES, "lateral 200\n", ITEMS, INDICES],
+            0,
+            SIDED_PLAN,
+        ),
+        (
+            place,
+            &[SIDED, SIDES, "lateral 199\n", ITEMS, INDICES],
+            4,
+            "NONE\n",
+        ),
+        (
+            place,
+            &[SIDED, FALLING_SIDES, "lateral 199\n", ITEMS, INDICES],
+            3,
+            "INPUT HOLD 10\n",
+        ),
     ];
     check_rows(&rt, rt.alloc(), &rows)
 }

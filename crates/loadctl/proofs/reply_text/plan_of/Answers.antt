@@ -2,8 +2,8 @@ use Rattle.std.proofs.Common.{◌++◌, ◌∷◌, [], ℕ, ℤ, List, length, a
 use Rattle.std.specs.Prelude.{codes, pos}
 use Rattle.mass_units.specs.Spelling.{index_text}
 use Rattle.hold_limits.specs.Placement.{placed, take_off_index, distance}
-use Rattle.problem_text.specs.TaskText.{text_of}
-use Rattle.loadctl.specs.ReplyText.{one_line, place_lines}
+use Rattle.text_lines.specs.Lines.{text_of}
+use Rattle.loadctl.specs.ReplyText.{one_line, place_lines, difference_lines}
 use Rattle.loadctl.proofs.TextLemmas.{plan_text-is}
 use Rattle.loadctl.proofs.reply_text.plan_of.Goals as goal
 
@@ -28,7 +28,9 @@ returns c =
     let with_index = c.in_ok-push_index_line.ensures
     ∙ ap (λ z. places ++ index_line (codes "index") z) worth.index
     ∙ ap (λ head. head ++ index_line (codes "index") (take_off_index t path)) with_places in
-    c.in_ok-push_index_line-2.ensures
+    let with_distance = c.in_ok-push_index_line-2.ensures
     ∙ ap (λ z. index ++ index_line (codes "distance") z) (c.ticks_of.ensures ∙ ap (λ n. pos n) worth.distance)
-    ∙ ap (λ head. head ++ index_line (codes "distance") (pos (distance t path))) with_index
+    ∙ ap (λ head. head ++ index_line (codes "distance") (pos (distance t path))) with_index in
+    c.in_ok-push_difference.ensures
+    ∙ ap (λ head. head ++ text_of (difference_lines t path)) with_distance
     ∙ sym (plan_text-is t path)

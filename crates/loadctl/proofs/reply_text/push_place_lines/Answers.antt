@@ -4,7 +4,7 @@ use Rattle.std.specs.Prelude.{codes}
 use Rattle.hold_limits.specs.Layout.{Layout, name_at}
 use Rattle.hold_limits.specs.Placement.{Placed, placed}
 use Rattle.hold_limits.proofs.PlacedLemmas.{length-placed}
-use Rattle.problem_text.specs.TaskText.{text_of}
+use Rattle.text_lines.specs.Lines.{text_of}
 use Rattle.loadctl.specs.ReplyText.{one_line, place_line, place_lines}
 use Rattle.loadctl.proofs.TextLemmas.{place_lines-more}
 use Rattle.loadctl.proofs.reply_text.push_place_lines.Goals as goal

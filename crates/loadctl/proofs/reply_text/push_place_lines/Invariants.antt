@@ -1,6 +1,6 @@
 use Rattle.std.proofs.Common.{◌≡◌, ◌++◌, take}
 use Rattle.hold_limits.specs.Placement.{placed}
-use Rattle.problem_text.specs.TaskText.{text_of}
+use Rattle.text_lines.specs.Lines.{text_of}
 use Rattle.loadctl.specs.ReplyText.{place_lines}
 use Rattle.loadctl.proofs.reply_text.push_place_lines.Given as goal
 
