@@ -1,0 +1,9 @@
+pub mod Fields
+pub mod Requests
+pub mod Refusals
+pub mod Connection
+pub mod Hearing
+pub mod Lending
+pub mod Places
+pub mod Answer
+pub mod Laws
