@@ -1,0 +1,145 @@
+//! The steps of a desk: it draws, waits for its turn, takes it, and wakes the others.
+
+ghost use Rattle.std.specs.Prelude.{◌≡◌, ◌==◌, ◌<◌, Option, [], ◌∷◌, Some, None, true, false};
+ghost use Rattle.std.specs.Bool.{MatchBool};
+ghost use Rattle.desk_lock.specs.Views.{card, card_of, seen_of};
+ghost use Rattle.desk_lock.specs.Steps.{HasTurn, GetsTurn, IsTurnDone, HasServed, desk_seat, IsSeatOf};
+
+use crate::board::{Advance, Board, BoardSeat, Draw, Look, MACHINE, SERVING, TICKETS};
+use crate::machine::Machine;
+use std::alloc::Global;
+use std::sync::Wait;
+
+/// Draws the next ticket.
+pub(crate) fn draw<M: Machine>(board: &Board<M>, seat: &mut BoardSeat<M>, place: u32) -> u64
+    requires board { IsSeatOf board.now.shared.table_id seat.old.table_id }
+    requires idle { seat.old.me
+        ≡ desk_seat board.now.shared.key place (card None false (seen_of seat.old.me.0)) [] }
+    ensures same { (seat.new.table_id ≡ seat.old.table_id) × (seat.new.id ≡ seat.old.id) }
+    ensures drawn { seat.new.me
+        ≡ desk_seat board.now.shared.key place (card (Some result) false (seen_of seat.old.me.0)) [] }
+{
+    board.shared.fetch_add::<Draw>(seat, TICKETS, 1)
+}
+
+/// Looks once which ticket is served.
+pub(crate) fn look<M: Machine>(
+    board: &Board<M>,
+    seat: &mut BoardSeat<M>,
+    place: u32,
+    ticket: u64,
+) -> u64
+    requires board { IsSeatOf board.now.shared.table_id seat.old.table_id }
+    requires drawn { seat.old.me
+        ≡ desk_seat board.now.shared.key place (card (Some ticket) false (seen_of seat.old.me.0)) [] }
+    requires below { ticket < board.now.shared.key.capacity }
+    ensures same { (seat.new.table_id ≡ seat.old.table_id) × (seat.new.id ≡ seat.old.id) }
+    ensures turn { MatchBool (result == ticket)
+        (GetsTurn M.setting M.history M.spare M.desk_of
+        board.now.shared.key place ticket (card_of seat.old.me.0) [] seat.new.me)
+        (seat.new.me ≡ seat.old.me) }
+{
+    board.shared.load::<Look<M>>(seat, SERVING)
+}
+
+/// Waits until the ticket is served: looks, and parks until a desk that ends its turn wakes it.
+pub(crate) fn wait<M: Machine, R: Wait>(
+    rt: &R,
+    board: &Board<M>,
+    seat: &mut BoardSeat<M>,
+    place: u32,
+    ticket: u64,
+)
+    requires board { IsSeatOf board.now.shared.table_id seat.old.table_id }
+    requires drawn { seat.old.me
+        ≡ desk_seat board.now.shared.key place (card (Some ticket) false (seen_of seat.old.me.0)) [] }
+    requires below { ticket < board.now.shared.key.capacity }
+    ensures same { (seat.new.table_id ≡ seat.old.table_id) × (seat.new.id ≡ seat.old.id) }
+    ensures turn { GetsTurn M.setting M.history M.spare M.desk_of
+        board.now.shared.key place ticket (card_of seat.old.me.0) [] seat.new.me }
+{
+    for _ in rt.forever() {
+        let serving = look(board, seat, place, ticket);
+        if serving == ticket {
+            return;
+        }
+        board.shared.park(rt, SERVING, (serving % (1 << 32)) as u32);
+    }
+    unreachable!()
+}
+
+/// Takes the machine out of the slot.
+pub(crate) fn take<M: Machine>(board: &Board<M>, seat: &mut BoardSeat<M>) -> M
+    requires board { IsSeatOf board.now.shared.table_id seat.old.table_id }
+    requires held { (m : M) × (seat.old.me.1 ≡ (0, Some m) ∷ []) }
+    ensures same { (seat.new.table_id ≡ seat.old.table_id) × (seat.new.id ≡ seat.old.id) }
+    ensures machine { seat.old.me.1 ≡ (0, Some result) ∷ [] }
+    ensures out { seat.new.me ≡ (seat.old.me.0, (0, None) ∷ []) }
+{
+    match board.shared.exchange(seat, MACHINE, None) {
+        Some(machine) => machine,
+        None => unreachable!(),
+    }
+}
+
+/// Gives the machine back into the slot.
+pub(crate) fn give<M: Machine>(board: &Board<M>, seat: &mut BoardSeat<M>, machine: M)
+    requires board { IsSeatOf board.now.shared.table_id seat.old.table_id }
+    requires out { (x : Option M) × (seat.old.me.1 ≡ (0, x) ∷ []) }
+    ensures same { (seat.new.table_id ≡ seat.old.table_id) × (seat.new.id ≡ seat.old.id) }
+    ensures held { seat.new.me ≡ (seat.old.me.0, (0, Some machine) ∷ []) }
+{
+    board.shared.exchange(seat, MACHINE, Some(machine));
+}
+
+/// Ends the turn: the slot is at home again, and the next ticket is served.
+pub(crate) fn advance<M: Machine>(
+    board: &Board<M>,
+    seat: &mut BoardSeat<M>,
+    place: u32,
+    ticket: u64,
+)
+    requires board { IsSeatOf board.now.shared.table_id seat.old.table_id }
+    requires done { IsTurnDone M.setting M.history M.spare M.desk_of
+        board.now.shared.key place ticket seat.old.me }
+    ensures same { (seat.new.table_id ≡ seat.old.table_id) × (seat.new.id ≡ seat.old.id) }
+    ensures idle { (m : M) → seat.old.me.1 ≡ (0, Some m) ∷ []
+        → seat.new.me ≡ desk_seat board.now.shared.key place (card None false (M.history m)) [] }
+{
+    board.shared.fetch_add::<Advance<M>>(seat, SERVING, 1);
+}
+
+/// Takes one turn of the machine, and ends it.
+pub(crate) fn serve<M: Machine>(
+    board: &Board<M>,
+    seat: &mut BoardSeat<M>,
+    place: u32,
+    ticket: u64,
+    alloc: Global,
+    request: M::Request,
+) -> M::Reply
+    requires board { IsSeatOf board.now.shared.table_id seat.old.table_id }
+    requires turn { HasTurn M.setting M.history M.spare M.desk_of
+        board.now.shared.key place ticket [] seat.old.me }
+    requires below { ticket < board.now.shared.key.capacity }
+    requires desks { place < 8 }
+    requires lawful { M.lawful request }
+    ensures same { (seat.new.table_id ≡ seat.old.table_id) × (seat.new.id ≡ seat.old.id) }
+    ensures served { HasServed M.setting M.history M.desk_of M.fits
+        board.now.shared.key place ticket request result seat.old.me.0 seat.new.me }
+{
+    let mut machine = take(board, seat);
+    let reply = machine.turn(alloc, place + 1, request);
+    give(board, seat, machine);
+    advance(board, seat, place, ticket);
+    reply
+}
+
+/// Wakes as many desks as there are, so that each that is parked looks again.
+pub(crate) fn wake<M: Machine>(board: &Board<M>, desks: u32)
+    requires { board.now.shared.table_id.words ≡ 2 }
+{
+    for _ in 0..desks {
+        board.shared.wake_one(SERVING);
+    }
+}
