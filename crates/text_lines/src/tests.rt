@@ -1,7 +1,5 @@
-// Lines and words of texts, and names of positions.
-use crate::{LineFault, Lines, Names, expect_line, split_once};
-use hold_limits::{Fits, Name, Position};
-use std::alloc::Global;
+// Lines and words of texts.
+use crate::{LineFault, Lines, expect_line, split_once};
 use std::test::Fail;
 
 #[test]
@@ -23,33 +21,5 @@ fn a_line_is_split_at_its_first_space(rt: HostRuntime) -> Result<(), Fail> {
         Some((b"loose".as_slice(), b"51 0".as_slice()))
     );
     assert_eq!(rt; split_once(b' ', b"END"), None);
-    Ok(())
-}
-
-fn bulk_position(alloc: Global, name: &[u8]) -> Result<Position, Fail> {
-    let name = Name::read(name);
-    let fits = Fits::from(Vec::new(alloc));
-    match name {
-        Some(name) => Ok(Position {
-            name,
-            compartment: 5,
-            influence: 0,
-            bulk: true,
-            fits,
-        }),
-        None => Err(Fail::from("no name")),
-    }
-}
-
-#[test]
-fn a_name_means_the_first_position_that_has_it(rt: HostRuntime) -> Result<(), Fail> {
-    let mut positions = Vec::new(rt.alloc());
-    for name in [b"51".as_slice(), b"52", b"51"] {
-        positions.push(bulk_position(rt.alloc(), name)?)?;
-    }
-    let names = Names::new(rt.alloc(), &positions)?;
-    assert_eq!(rt; names.number_of(b"51"), Some(0));
-    assert_eq!(rt; names.number_of(b"52"), Some(1));
-    assert_eq!(rt; names.number_of(b"5"), None);
     Ok(())
 }
