@@ -13,6 +13,11 @@ pub same_number : (text : List ℕ) (value : ℕ) → ((m : ℕ) × (text ≡ nu
 same_number text value read n small e =
     let same : read.0 ≡ n = number_text-injective read.0 n (sym read.1 ∙ e) in omega arith
 
+-- the same for a number of 32 bits
+pub same_long_number : (text : List ℕ) (value : ℕ) → ((m : ℕ) × (text ≡ number_text m) × (value ≡ min m (2 ^ 64 - 1))) → (n : ℕ) → n < 2 ^ 32 → text ≡ number_text n → value ≡ n
+same_long_number text value read n small e =
+    let same : read.0 ≡ n = number_text-injective read.0 n (sym read.1 ∙ e) in omega arith
+
 -- ---- units
 
 -- a text that is no whole number, mark and decimals is no number of ticks

@@ -27,6 +27,9 @@ const MAX_INDEX: u64 = 1_000_000_000;
 /// A number in a text lies below this: it has at most nine digits.
 const NUMBER_LIMIT: u64 = 1_000_000_000;
 
+/// The greatest number of 32 bits.
+const GREATEST_LONG_NUMBER: u64 = 4_294_967_295;
+
 /// Why a text is not read as an index.
 #[derive(Clone, Copy, Debug, PartialEq, Eq, Error)]
 pub enum NumFault {
@@ -64,6 +67,17 @@ pub fn read_number(text: &[u8]) -> Option<u32>
 {
     match read_whole(text) {
         Some(n) if n < NUMBER_LIMIT => Some(n as u32),
+        _ => None,
+    }
+}
+
+/// Reads a number of at most 32 bits, which has up to ten digits. None where the text spells no such number.
+pub fn read_long_number(text: &[u8]) -> Option<u32>
+    ensures some { IfSome result (λ n. text.now ≡ number_text n) }
+    ensures read_back { (n : ℕ) → n < 2 ^ 32 → text.now ≡ number_text n → result ≡ Some n }
+{
+    match read_whole(text) {
+        Some(n) if n <= GREATEST_LONG_NUMBER => Some(n as u32),
         _ => None,
     }
 }

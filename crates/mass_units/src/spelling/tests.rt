@@ -71,6 +71,8 @@ fn numbers_are_read(rt: HostRuntime) {
     for text in no_number {
         assert_eq!(rt; read_number(text), None);
     }
+    assert_eq!(rt; read_long_number(b"4294967295"), Some(u32::MAX));
+    assert_eq!(rt; read_long_number(b"4294967296"), None);
     let no_signed: [&[u8]; 6] = [b"", b"-", b"-0", b"-01", b"--1", b"-1000000000"];
     for text in no_signed {
         assert_eq!(rt; read_signed(text), None);
