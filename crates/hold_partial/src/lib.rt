@@ -9,6 +9,7 @@ mod demand;
 mod level;
 mod limit_table;
 mod loads;
+mod moves;
 mod partial;
 mod position_set;
 mod position_table;
@@ -16,6 +17,7 @@ mod sides;
 mod tables;
 
 pub use hold_reach::{RuleBroken, reach_laws};
+pub use moves::{advances, keep_first, move_to};
 pub use partial::Partial;
 
 #[cfg(test)]
