@@ -1,0 +1,94 @@
+-- a text has one first line `CERTIFICATE 1`, or none
+use Rattle.std.proofs.Common.{◌≡◌, ℕ, eqb, false, ◌++◌, ◌∷◌, List, [], refl, sym, ◌∙◌, ap, All, inl, inr, ◌⊎◌, ⊎_elim}
+use Rattle.std.proofs.lemmas.List.{append_assoc, append-nil}
+use Rattle.std.proofs.lemmas.List.Elements.{All-head, All-tail, All-same}
+use Rattle.text_lines.specs.Cuts.{Avoids}
+use Rattle.text_lines.specs.Lines.{text_of}
+use Rattle.text_lines.proofs.CutLemmas.{split_once_again, has_mark}
+use Rattle.text_lines.proofs.WordLemmas.{plain_word}
+use Rattle.certificate.specs.CertificateText.{start_line, IsEarlier, StartsAfter}
+use Rattle.certificate.specs.Refusals.{HasNoStart}
+
+abbrev pub AreLines : List (List ℕ) → Type 0
+AreLines lines = All (Avoids 10) lines
+
+-- ---- a text is cut into lines in one way
+
+some_text : (zs : List (List ℕ)) (rest : List ℕ) → [] ≡ text_of zs ++ rest → zs ≡ []
+some_text [] rest e = refl
+some_text ([] ∷ zs) rest e = absurd (cc)
+some_text ((b ∷ z) ∷ zs) rest e = absurd (cc)
+
+-- of two cuts of a text into first lines and a rest, one goes on where the other stops
+pub compare : (xs ys : List (List ℕ)) (rest other : List ℕ) → AreLines xs → AreLines ys → text_of xs ++ rest ≡ text_of ys ++ other
+    → ((zs : List (List ℕ)) × (ys ≡ xs ++ zs) × (rest ≡ text_of zs ++ other)) ⊎ ((zs : List (List ℕ)) × (xs ≡ ys ++ zs) × (other ≡ text_of zs ++ rest))
+compare [] ys rest other p q e = inl (ys, refl, e)
+compare (x ∷ xs) [] rest other p q e = inr (x ∷ xs, refl, sym e)
+compare (x ∷ xs) (y ∷ ys) rest other p q e =
+    let whole = sym (append_assoc x (10 ∷ text_of xs) rest) ∙ e ∙ append_assoc y (10 ∷ text_of ys) other in
+    let cut = split_once_again 10 x (text_of xs ++ rest) y (text_of ys ++ other) (All-head (Avoids 10) x xs p) (All-head (Avoids 10) y ys q) whole in
+    ⊎_elim
+    (λ (h : (zs : List (List ℕ)) × (ys ≡ xs ++ zs) × (rest ≡ text_of zs ++ other)). inl (h.0, (λ i. sym cut.0 i ∷ h.1 i), h.2))
+    (λ (h : (zs : List (List ℕ)) × (xs ≡ ys ++ zs) × (other ≡ text_of zs ++ rest)). inr (h.0, (λ i. cut.0 i ∷ h.1 i), h.2))
+    (compare xs ys rest other (All-tail (Avoids 10) x xs p) (All-tail (Avoids 10) y ys q) cut.1)
+
+-- lines that are the whole text go on where any other first lines of it stop
+pub whole_goes_on : (xs ys : List (List ℕ)) (other : List ℕ) → AreLines xs → AreLines ys → text_of xs ≡ text_of ys ++ other → (zs : List (List ℕ)) × (xs ≡ ys ++ zs) × (other ≡ text_of zs)
+whole_goes_on xs ys other p q e =
+    ⊎_elim
+    (λ (h : (zs : List (List ℕ)) × (ys ≡ xs ++ zs) × ([] ≡ text_of zs ++ other)).
+    let none = some_text h.0 other h.2 in
+    let left : other ≡ [] = sym (h.2 ∙ ap (λ zs. text_of zs ++ other) none) in
+    ([], sym (append-nil ys ∙ h.1 ∙ ap (λ zs. xs ++ zs) none ∙ append-nil xs), left))
+    (λ (h : (zs : List (List ℕ)) × (xs ≡ ys ++ zs) × (other ≡ text_of zs ++ [])). (h.0, h.1, h.2 ∙ append-nil (text_of h.0)))
+    (compare xs ys [] other p q (append-nil (text_of xs) ∙ e))
+
+pub whole_once : (xs ys : List (List ℕ)) → AreLines xs → AreLines ys → text_of xs ≡ text_of ys → xs ≡ ys
+whole_once xs ys p q e =
+    let more = whole_goes_on xs ys [] p q (e ∙ sym (append-nil (text_of ys))) in
+    let none = some_text more.0 [] (more.2 ∙ sym (append-nil (text_of more.0))) in
+    more.1 ∙ ap (λ zs. ys ++ zs) none ∙ append-nil ys
+
+-- one more line at the end
+pub joined : (xs : List (List ℕ)) (x rest : List ℕ) → text_of (xs ++ x ∷ []) ++ rest ≡ text_of xs ++ (x ++ 10 ∷ rest)
+joined [] x rest = append_assoc x (10 ∷ []) rest
+joined (y ∷ xs) x rest = append_assoc y (10 ∷ text_of (xs ++ x ∷ [])) rest ∙ ap (λ t. y ++ 10 ∷ t) (joined xs x rest) ∙ sym (append_assoc y (10 ∷ text_of xs) (x ++ 10 ∷ rest))
+
+-- ---- the start
+
+start_avoids : Avoids 10 start_line
+start_avoids = plain_word 10 start_line refl
+
+-- the texts from a point on, one of which begins with the start of a certificate
+here : (before : List (List ℕ)) (text rest : List ℕ) (line more : List ℕ) → IsEarlier line → StartsAfter before text rest → text ≡ line ++ 10 ∷ more → (others : List (List ℕ)) × (before ≡ line ∷ others) × StartsAfter others more rest
+here [] text rest line more earlier s e =
+    let same = split_once_again 10 start_line rest line more start_avoids earlier.whole (sym s.is ∙ e) in
+    absurd (earlier.other (sym same.0))
+here (x ∷ before) text rest line more earlier s e =
+    let one = All-head IsEarlier x before s.earlier in
+    let same = split_once_again 10 x (text_of before ++ (start_line ++ 10 ∷ rest)) line more one.whole earlier.whole (sym (append_assoc x (10 ∷ text_of before) (start_line ++ 10 ∷ rest)) ∙ sym s.is ∙ e) in
+    (before, (λ i. same.0 i ∷ before), record { earlier = All-tail IsEarlier x before s.earlier; is = sym same.1 })
+
+pub starts_once : (xs ys : List (List ℕ)) (text rest other : List ℕ) → StartsAfter xs text rest → StartsAfter ys text other → (xs ≡ ys) × (rest ≡ other)
+starts_once [] [] text rest other s t = (refl, (split_once_again 10 start_line rest start_line other start_avoids start_avoids (sym s.is ∙ t.is)).1)
+starts_once [] (y ∷ ys) text rest other s t =
+    let more = here [] text rest y (text_of ys ++ (start_line ++ 10 ∷ other)) (All-head IsEarlier y ys t.earlier) s (t.is ∙ append_assoc y (10 ∷ text_of ys) (start_line ++ 10 ∷ other)) in
+    absurd (cc (more.1))
+starts_once (x ∷ xs) ys text rest other s t =
+    let more = here ys text other x (text_of xs ++ (start_line ++ 10 ∷ rest)) (All-head IsEarlier x xs s.earlier) t (s.is ∙ append_assoc x (10 ∷ text_of xs) (start_line ++ 10 ∷ rest)) in
+    let again = starts_once xs more.0 (text_of xs ++ (start_line ++ 10 ∷ rest)) rest other (record { earlier = All-tail IsEarlier x xs s.earlier; is = refl }) more.2 in
+    (ap (λ zs. x ∷ zs) again.0 ∙ sym more.1, again.1)
+
+none_here : (before : List (List ℕ)) (text rest : List ℕ) → Avoids 10 text → StartsAfter before text rest → ⊥
+none_here [] text rest end s = has_mark 10 start_line rest (All-same (λ b. eqb b 10 ≡ false) _ _ (sym s.is) end)
+none_here (x ∷ before) text rest end s =
+    has_mark 10 x (text_of before ++ (start_line ++ 10 ∷ rest)) (All-same (λ b. eqb b 10 ≡ false) _ _ (sym (s.is ∙ append_assoc x (10 ∷ text_of before) (start_line ++ 10 ∷ rest))) end)
+
+none_after : (lines before : List (List ℕ)) (text end rest : List ℕ) → All IsEarlier lines → Avoids 10 end → text ≡ text_of lines ++ end → StartsAfter before text rest → ⊥
+none_after [] before text end rest earlier clear e s = none_here before text rest (All-same (λ b. eqb b 10 ≡ false) _ _ e clear) s
+none_after (x ∷ lines) before text end rest earlier clear e s =
+    let more = here before text rest x (text_of lines ++ end) (All-head IsEarlier x lines earlier) s (e ∙ append_assoc x (10 ∷ text_of lines) end) in
+    none_after lines more.0 (text_of lines ++ end) end rest (All-tail IsEarlier x lines earlier) clear refl more.2
+
+pub no_start_starts : (text : List ℕ) (before : List (List ℕ)) (rest : List ℕ) → HasNoStart text → StartsAfter before text rest → ⊥
+no_start_starts text before rest none s = none_after none.lines before text none.rest rest none.earlier none.end none.is s

@@ -1,0 +1,128 @@
+-- texts that grow by one entry after another
+use Rattle.std.proofs.Common.{◌≡◌, ◌≢◌, ℕ, ◌+◌, ◌<◌, ◌≤◌, List, [], ◌∷◌, ◌++◌, length, map, take, get_or, Some, IfSome, subst, refl, ap, sym, ◌∙◌, arith}
+use Rattle.std.proofs.lemmas.List.{append-nil, append_assoc, take_more, get_or-take, length-take}
+use Rattle.std.proofs.lemmas.List.Elements.{All-push, All-weaker, All-head, All-tail, All-nil, All-cons}
+use Rattle.std.proofs.lemmas.Option.{slice_get-get_or}
+use Rattle.std.specs.Option.{option_map_or}
+use Rattle.std.specs.Prelude.{All, AllPairs, slice_get, codes}
+use Rattle.arrayvec.specs.ArrayVec.{ArrayVec}
+use Rattle.hold_parts.specs.declared.parts.Position.{Position}
+use Rattle.hold_limits.specs.Layout.{name_at}
+use Rattle.text_lines.specs.Lines.{text_of}
+use Rattle.text_lines.specs.Names.{IsNamed}
+use Rattle.text_lines.specs.WordRuns.{run_text}
+use Rattle.text_lines.proofs.SectionLemmas.{text_of-append}
+use Rattle.certificate.specs.Evidence.{claimed, paths_of}
+use Rattle.certificate.specs.CertificateText.{start_line, claim_line, cut_line, expanded_line, certificate_text, IsSpelledPath, IsSpelledClaim, IsSpelledNumber, AreFewCuts, IsEarlier, Spells}
+use Rattle.certificate.specs.declared.parts.Claim.{Claim}
+use Rattle.certificate.specs.declared.parts.Claim.TheVariants.{Best, NoneFits}
+use Rattle.certificate.specs.declared.parts.Certificate.{Certificate}
+
+run_push : {X : Type 0} (text : X → List ℕ) (xs : List X) (x : X) → run_text text (xs ++ x ∷ []) ≡ run_text text xs ++ text x
+run_push text [] x = append-nil (text x)
+run_push text (y ∷ ys) x = ap (λ t. text y ++ t) (run_push text ys x) ∙ sym (append_assoc (text y) (run_text text ys) (text x))
+
+run_more : {X : Type 0} (text : X → List ℕ) (xs : List X) (i : ℕ) (d : X) → i < length xs
+    → run_text text (take (i + 1) xs) ≡ run_text text (take i xs) ++ text (get_or xs i d)
+run_more text xs i d within = ap (run_text text) (take_more xs i d within) ∙ run_push text (take i xs) (get_or xs i d)
+
+-- a text that had the entries before this one, and then grew by it
+pub run_grows : {X : Type 0} (text : X → List ℕ) (xs : List X) (i : ℕ) (d : X) (start old new : List ℕ) → i < length xs
+    → old ≡ start ++ run_text text (take i xs) → new ≡ old ++ text (get_or xs i d) → new ≡ start ++ run_text text (take (i + 1) xs)
+run_grows text xs i d start old new within was grew =
+    grew ∙ ap (λ t. t ++ text (get_or xs i d)) was
+    ∙ append_assoc start (run_text text (take i xs)) (text (get_or xs i d))
+    ∙ ap (λ t. start ++ t) (sym (run_more text xs i d within))
+
+lines_push : {X : Type 0} (line : X → List ℕ) (xs : List X) (x : X) → text_of (map line (xs ++ x ∷ [])) ≡ text_of (map line xs) ++ (line x ++ 10 ∷ [])
+lines_push line [] x = refl
+lines_push line (y ∷ ys) x = ap (λ t. line y ++ 10 ∷ t) (lines_push line ys x) ∙ sym (append_assoc (line y) (10 ∷ text_of (map line ys)) (line x ++ 10 ∷ []))
+
+lines_more : {X : Type 0} (line : X → List ℕ) (xs : List X) (i : ℕ) (d : X) → i < length xs
+    → text_of (map line (take (i + 1) xs)) ≡ text_of (map line (take i xs)) ++ (line (get_or xs i d) ++ 10 ∷ [])
+lines_more line xs i d within = ap (λ ys. text_of (map line ys)) (take_more xs i d within) ∙ lines_push line (take i xs) (get_or xs i d)
+
+lines_grow : {X : Type 0} (line : X → List ℕ) (xs : List X) (i : ℕ) (d : X) (start old new : List ℕ) → i < length xs
+    → old ≡ start ++ text_of (map line (take i xs)) → new ≡ old ++ (line (get_or xs i d) ++ 10 ∷ []) → new ≡ start ++ text_of (map line (take (i + 1) xs))
+lines_grow line xs i d start old new within was grew =
+    grew ∙ ap (λ t. t ++ (line (get_or xs i d) ++ 10 ∷ [])) was
+    ∙ append_assoc start (text_of (map line (take i xs))) (line (get_or xs i d) ++ 10 ∷ [])
+    ∙ ap (λ t. start ++ t) (sym (lines_more line xs i d within))
+
+-- the same of a list whose entries are all of a kind
+pub lines_grow_of : {X : Type 0} (P : X → Type 0) (line : X → List ℕ) (xs : List X) (i : ℕ) (x : X) (start old new : List ℕ) → i < length xs → x ≡ get_or xs i x
+    → (old ≡ start ++ text_of (map line (take i xs))) × All P (take i xs) → new ≡ old ++ (line x ++ 10 ∷ []) → P x
+    → (new ≡ start ++ text_of (map line (take (i + 1) xs))) × All P (take (i + 1) xs)
+lines_grow_of P line xs i x start old new within is was grew right = (
+  lines_grow line xs i x start old new within was.0 (grew ∙ ap (λ y. old ++ (line y ++ 10 ∷ [])) is),
+  subst (All P) (sym (take_more xs i x within)) (All-push P (take i xs) (get_or xs i x) was.1 (subst P is right)),
+)
+
+-- texts that grew piece by piece
+pub regroup : (old a b : List ℕ) (n m : List ℕ) → n ≡ old ++ a → m ≡ n ++ b → m ≡ old ++ (a ++ b)
+regroup old a b n m first second = second ∙ ap (λ t. t ++ b) first ∙ append_assoc old a b
+
+pub built-3 : (old a b c : List ℕ) (n1 n2 n3 : List ℕ) → n1 ≡ old ++ a → n2 ≡ n1 ++ b → n3 ≡ n2 ++ c → n3 ≡ old ++ ((a ++ b) ++ c)
+built-3 old a b c n1 n2 n3 e1 e2 e3 = regroup old (a ++ b) c n2 n3 (regroup old a b n1 n2 e1 e2) e3
+
+-- ---- the lines of cuts
+
+pub lines_of_paths : (line : List ℕ → List ℕ) (paths : List (ArrayVec ℕ)) → map (λ (path : ArrayVec ℕ). line path.items) paths ≡ map line (paths_of paths)
+lines_of_paths line [] = refl
+lines_of_paths line (path ∷ paths) = ap (λ xs. line path.items ∷ xs) (lines_of_paths line paths)
+
+-- ---- the whole text
+
+-- a text with some lines more
+with_lines : (start : List ℕ) (a b : List (List ℕ)) (old new : List ℕ) → old ≡ start ++ text_of a → new ≡ old ++ text_of b → new ≡ start ++ text_of (a ++ b)
+with_lines start a b old new had is =
+    is ∙ ap (λ t. t ++ text_of b) had ∙ append_assoc start (text_of a) (text_of b) ∙ ap (λ t. start ++ t) (sym (text_of-append a b))
+
+pub text_built : (ps : List Position) (c : Certificate) (start n1 n2 n3 n4 n5 : List ℕ) → n1 ≡ start ++ text_of (start_line ∷ []) → n2 ≡ n1 ++ (claim_line ps c.claim ++ 10 ∷ []) → n3 ≡ n2 ++ text_of (map (cut_line ps) c.cuts) → n4 ≡ n3 ++ (expanded_line c.expanded ++ 10 ∷ []) → n5 ≡ n4 ++ text_of (codes "END" ∷ []) → n5 ≡ start ++ certificate_text ps c
+text_built ps c start n1 n2 n3 n4 n5 e1 e2 e3 e4 e5 =
+    let first = start_line ∷ claim_line ps c.claim ∷ [] in
+    let cuts = map (cut_line ps) c.cuts in
+    let last = expanded_line c.expanded ∷ [] in
+    let end = codes "END" ∷ [] in
+    let t2 = with_lines start (start_line ∷ []) (claim_line ps c.claim ∷ []) n1 n2 e1 e2 in
+    let t3 = with_lines start first cuts n2 n3 t2 e3 in
+    let t4 = with_lines start (first ++ cuts) last n3 n4 t3 e4 in
+    let t5 = with_lines start ((first ++ cuts) ++ last) end n4 n5 t4 e5 in
+    t5 ∙ ap (λ lines. start ++ text_of lines) (append_assoc (first ++ cuts) last end ∙ append_assoc first cuts (last ++ end))
+
+-- ---- a written certificate is spelled
+
+-- where no two positions have one name, each is the first of its name
+pub first_named : (ps : List Position) → AllPairs (λ (a b : Position). a.name ≢ b.name) ps → (q : ℕ) → q < length ps → IsNamed ps q
+first_named ps differ q known = record {
+  known = known;
+  first = λ k d within same.
+      let before : k < q = omega (arith, length-take q ps) in
+      let there : slice_get ps q ≡ Some (get_or ps q d) = slice_get-get_or ps q d known in
+      let name : name_at ps q ≡ (get_or ps q d).name = ap (λ o. option_map_or (λ (p : Position). p.name) o []) there in
+      let earlier : get_or (take q ps) k d ≡ get_or ps k d = get_or-take q ps k d before in
+      differ k q d before known (sym (ap (λ (p : Position). p.name) earlier) ∙ same ∙ name);
+}
+
+abbrev AreKnown : List Position → List ℕ → Type 0
+AreKnown ps path = All (λ q. q < length ps) path
+
+path_spelled : (ps : List Position) → AllPairs (λ (a b : Position). a.name ≢ b.name) ps → (path : List ℕ) → AreKnown ps path → length path ≤ 60 → IsSpelledPath ps path
+path_spelled ps differ path known few = record { few = few; named = All-weaker (λ q. q < length ps) (IsNamed ps) (first_named ps differ) path known }
+
+claim_spelled : (ps : List Position) → AllPairs (λ (a b : Position). a.name ≢ b.name) ps → (claim : Claim) → IfSome (claimed claim) (AreKnown ps) → IfSome (claimed claim) (λ path. length path ≤ 60) → IsSpelledClaim ps claim
+claim_spelled ps differ (Best path) known few = path_spelled ps differ path.items known few
+claim_spelled ps differ NoneFits known few = tt
+
+cuts_spelled : (ps : List Position) → AllPairs (λ (a b : Position). a.name ≢ b.name) ps → (cuts : List (List ℕ)) → All (AreKnown ps) cuts → All (λ cut. length cut ≤ 60) cuts → All (IsSpelledPath ps) cuts
+cuts_spelled ps differ [] known few = All-nil (IsSpelledPath ps)
+cuts_spelled ps differ (cut ∷ cuts) known few =
+    All-cons (IsSpelledPath ps) cut cuts (path_spelled ps differ cut (All-head (AreKnown ps) cut cuts known) (All-head (λ cut. length cut ≤ 60) cut cuts few))
+    (cuts_spelled ps differ cuts (All-tail (AreKnown ps) cut cuts known) (All-tail (λ cut. length cut ≤ 60) cut cuts few))
+
+pub written_spells : (ps : List Position) → AllPairs (λ (a b : Position). a.name ≢ b.name) ps → (c : Certificate) → IfSome (claimed c.claim) (AreKnown ps) → All (AreKnown ps) c.cuts → IfSome (claimed c.claim) (λ path. length path ≤ 60) → All (λ cut. length cut ≤ 60) c.cuts → IsSpelledNumber c.expanded → AreFewCuts c.cuts → (text : List ℕ) → text ≡ certificate_text ps c → (before : List (List ℕ)) → All IsEarlier before → Spells ps (text_of before ++ text) c
+written_spells ps differ c claim cuts short shorts number few text e before earlier = record {
+  before = before;
+  starts = record { earlier = earlier; is = ap (λ t. text_of before ++ t) e };
+  spelled = record { claim = claim_spelled ps differ c.claim claim short; cuts = cuts_spelled ps differ c.cuts cuts shorts; few = few; expanded = number };
+}

@@ -1,0 +1,10 @@
+use Rattle.std.proofs.Common.{◌∙◌, ◌++◌, ◌∷◌, ap}
+use Rattle.text_lines.specs.WordRuns.{name_text}
+use Rattle.certificate.proofs.WriterLemmas.{run_grows}
+use Rattle.certificate.proofs.line_writers.push_names.Goals as goal
+
+pub loop-number-preserved : goal.loop-number-preserved
+loop-number-preserved c =
+    run_grows (name_text c.args.hold.now.positions) c.args.numbers.now c.loop-number.number-index 0 c.args.text.now.items c.loop-number.text.items _
+    c.loop-number-test.true c.loop-number.invariant
+    (c.in_ok-push_word.ensures ∙ ap (λ name. c.loop-number.text.items ++ 32 ∷ name) c.name_at.ensures)

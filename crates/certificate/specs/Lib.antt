@@ -1,0 +1,5 @@
+pub mod Evidence
+pub mod Good
+pub mod CertificateText
+pub mod Refusals
+pub mod Reading

@@ -1,0 +1,24 @@
+ghost use Rattle.std.specs.Prelude.{◌≡◌, ◌≢◌, ℕ, List, All};
+ghost use Rattle.hold_parts.specs.Spellings.{IsName};
+ghost use Rattle.hold_parts.specs.declared.parts.Position.{Position};
+ghost use Rattle.certificate.specs.CertificateText.{Spells};
+ghost use Rattle.certificate.specs.Refusals.{IsRefused};
+ghost use Rattle.certificate.specs.declared.parts.Certificate.{Certificate};
+ghost use Rattle.certificate.specs.declared.fault.CertFault.{CertFault};
+
+/// Every text has exactly one answer over positions with names. It spells at most one certificate; a text that spells
+/// one has no fault; a text has at most one fault; and no text is without both a certificate and a fault. Running out of
+/// memory says nothing about the text and is no answer in this sense.
+///
+/// The call does nothing: it exists for its contract.
+pub fn reading_laws()
+    ensures one_certificate { (ps : List Position) → All (λ (q : Position). IsName q.name) ps → (text : List ℕ)
+        (a b : Certificate) → Spells ps text a → Spells ps text b → a ≡ b }
+    ensures no_fault { (ps : List Position) → All (λ (q : Position). IsName q.name) ps → (text : List ℕ)
+        (c : Certificate) (fault : CertFault) → Spells ps text c → IsRefused ps text fault → fault ≡ CertFault.NoMemory }
+    ensures one_fault { (ps : List Position) → All (λ (q : Position). IsName q.name) ps → (text : List ℕ)
+        (a b : CertFault) → IsRefused ps text a → IsRefused ps text b
+        → a ≢ CertFault.NoMemory → b ≢ CertFault.NoMemory → a ≡ b }
+    ensures some_answer { (ps : List Position) (text : List ℕ) → ((c : Certificate) → Spells ps text c → ⊥)
+        → ((fault : CertFault) → IsRefused ps text fault → fault ≡ CertFault.NoMemory) → ⊥ }
+{}

@@ -1,0 +1,53 @@
+//! The writer of a certificate's text.
+
+ghost use Rattle.std.specs.Prelude.{◌≡◌, ◌<◌, ◌≤◌, ℕ, List, ◌++◌, length, All, IfOk, IfSome, OnOk};
+ghost use Rattle.text_lines.specs.Lines.{text_of};
+ghost use Rattle.certificate.specs.Evidence.{claimed};
+ghost use Rattle.certificate.specs.CertificateText.{certificate_text, IsEarlier, IsSpelledNumber, AreFewCuts, Spells};
+
+use crate::line_writers::{push_claim, push_cuts, push_expanded};
+use crate::parts::Certificate;
+use desk_base::NoMemory;
+use hold_limits::Task;
+use std::alloc::Global;
+
+/// Appends the text of the certificate over the positions of the task's hold.
+pub fn push_certificate(
+    alloc: Global,
+    text: &mut Vec<u8>,
+    task: &Task,
+    certificate: &Certificate,
+) -> Result<(), NoMemory>
+    ensures written { OnOk result (text.new.items
+        ≡ text.old.items ++ certificate_text task.now.hold.positions certificate.now) }
+    ensures short_claim { OnOk result (IfSome (claimed certificate.now.claim) (λ path. length path ≤ 60)) }
+    ensures short_cuts { OnOk result (All (λ cut. length cut ≤ 60) certificate.now.cuts) }
+{
+    let hold = task.hold();
+    text.extend_from_slice(b"CERTIFICATE 1\n")?;
+    push_claim(text, hold, &certificate.claim)?;
+    push_cuts(text, hold, certificate.cuts.as_slice())?;
+    push_expanded(alloc, text, certificate.expanded)?;
+    text.extend_from_slice(b"END\n")?;
+    Ok(())
+}
+
+/// Writes the one text of the certificate over the positions of the task's hold. Where it has at most 3,200,000 cuts
+/// and looks at no more than 50,000 prefixes it is read back, also behind any lines that are not `CERTIFICATE 1`.
+pub fn write_certificate(
+    alloc: Global,
+    task: &Task,
+    certificate: &Certificate,
+) -> Result<Vec<u8>, NoMemory>
+    requires claim { IfSome (claimed certificate.now.claim) (All (λ q. q < length task.now.hold.positions)) }
+    requires cuts { All (All (λ q. q < length task.now.hold.positions)) certificate.now.cuts }
+    ensures written { IfOk result (λ text. text.items ≡ certificate_text task.now.hold.positions certificate.now) }
+    ensures read_back { IsSpelledNumber certificate.now.expanded → AreFewCuts certificate.now.cuts
+        → IfOk result (λ text. (before : List (List ℕ)) → All IsEarlier before
+        → Spells task.now.hold.positions (text_of before ++ text.items) certificate.now) }
+{
+    let _hold = task.hold();
+    let mut text = Vec::new(alloc);
+    push_certificate(alloc, &mut text, task, certificate)?;
+    Ok(text)
+}
