@@ -1,0 +1,11 @@
+pub mod PathOrder
+pub mod GoodLemmas
+pub mod Exactly
+pub mod ViableFronts
+pub mod CutOrder
+pub mod StandardLemmas
+pub mod WalkLemmas
+pub mod CutLemmas
+pub mod ReasonLemmas
+pub mod Decided
+pub mod OneReason

@@ -1,0 +1,27 @@
+use Rattle.std.proofs.lemmas.Result.{IfOk-weaker, IfErr-weaker}
+use Rattle.certificate.specs.Evidence.{paths_of}
+use Rattle.cert_checker.specs.Claims.{IsGoodFor}
+use Rattle.cert_checker.specs.FirstReason.{IsFirstReasonFor}
+use Rattle.cert_checker.specs.Steps.{path_of, EvidenceHolds, EvidenceFails}
+use Rattle.cert_checker.proofs.ReasonLemmas.{good_for-from, reason_for-from}
+use Rattle.cert_checker.proofs.checks.first_reason.Goals as goal
+
+pub returns-clause-good : goal.returns-clause-good
+returns-clause-good c =
+    let t = c.args.task.now in
+    let certificate = c.args.certificate.now in
+    IfOk-weaker c.check_task.result
+    (λ _. EvidenceHolds t (record { standard = c.in-Ok.standard; cuts = c.as_slice.result }) certificate.expanded)
+    (λ _. IsGoodFor t certificate)
+    (λ _ holds. good_for-from t certificate (path_of c.in-Ok.standard) (paths_of c.as_slice.result.now) c.in-Ok.ensures.path c.as_slice.ensures c.in-Ok.ensures.holds holds)
+    c.check_task.ensures.holds
+
+pub returns-clause-refused : goal.returns-clause-refused
+returns-clause-refused c =
+    let t = c.args.task.now in
+    let certificate = c.args.certificate.now in
+    IfErr-weaker c.check_task.result
+    (λ reason. EvidenceFails t (record { standard = c.in-Ok.standard; cuts = c.as_slice.result }) certificate.expanded reason)
+    (λ reason. IsFirstReasonFor t certificate reason)
+    (λ reason fails. reason_for-from t certificate (path_of c.in-Ok.standard) (paths_of c.as_slice.result.now) reason c.in-Ok.ensures.path c.as_slice.ensures c.in-Ok.ensures.holds fails)
+    c.check_task.ensures.fails

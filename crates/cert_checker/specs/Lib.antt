@@ -1,0 +1,4 @@
+pub mod Claims
+pub mod Certified
+pub mod FirstReason
+pub mod Steps

@@ -1,0 +1,86 @@
+//! Whether a claim holds, and what is better than it.
+
+ghost use Rattle.std.specs.Prelude.{◌≡◌, ◌↔◌, ◌≤◌, IfOk, IfErr, IsTrue, false, length};
+ghost use Rattle.hold_limits.specs.Placement.{KeepsLateralLimit, IsAdmissible, IsAtMost};
+ghost use Rattle.certificate.specs.Evidence.{claimed};
+ghost use Rattle.cert_checker.specs.Claims.{ClaimsPath, ClaimsNone};
+ghost use Rattle.cert_checker.specs.FirstReason.{ClaimHolds};
+ghost use Rattle.cert_checker.specs.Steps.{path_of, standard_key, IsMeasured, IsAtLeast};
+ghost use Rattle.cert_checker.specs.declared.reject.Reject.TheVariants.{NotAPlacement};
+
+use crate::reject::Reject;
+use crate::standard::{Evidence, Standard};
+use certificate::{Certificate, Claim};
+use hold_limits::{
+    Path, Task, hold_index_of, is_in_window, is_sound, lateral_difference_of, outcome,
+};
+use std::cmp::Ordering;
+
+/// Whether the certificate claims a path.
+pub fn claims_path(certificate: &Certificate) -> bool
+    ensures path { IsTrue result ↔ ClaimsPath certificate.now }
+    ensures none { result ≡ false ↔ ClaimsNone certificate.now }
+{
+    match &certificate.claim {
+        Claim::Best(_) => true,
+        Claim::NoneFits => false,
+    }
+}
+
+/// Whether the lateral difference of the path is within the lateral limit of the hold.
+fn keeps_lateral_limit(task: &Task, path: &[u8]) -> bool
+    requires { length path.now ≤ length task.now.items }
+    ensures { IsTrue result ↔ KeepsLateralLimit task.now path.now }
+{
+    let difference = lateral_difference_of(task, path);
+    task.hold().is_within_lateral(difference)
+}
+
+/// Whether the path is admissible.
+fn is_admissible(task: &Task, path: &[u8]) -> bool
+    ensures { IsTrue result ↔ IsAdmissible task.now path.now }
+{
+    is_sound(task, path)
+        && path.len() == task.items().len()
+        && is_in_window(task, hold_index_of(task, path))
+        && keeps_lateral_limit(task, path)
+}
+
+/// The claimed path with its distance, if one is claimed. It is refused where it is not admissible.
+pub fn standard_of<'a>(task: &Task, claim: &'a Claim) -> Result<Option<Standard<'a>>, Reject>
+    ensures path { IfOk result (λ standard. path_of standard ≡ claimed claim.now) }
+    ensures measured { IfOk result (λ standard. IsMeasured task.now standard) }
+    ensures holds { IfOk result (λ _. ClaimHolds task.now (claimed claim.now)) }
+    ensures refused { IfErr result (λ reason. reason ≡ NotAPlacement) }
+    ensures fails { IfErr result (λ _. ClaimHolds task.now (claimed claim.now) → ⊥) }
+{
+    let Claim::Best(path) = claim else {
+        return Ok(None);
+    };
+    if !is_admissible(task, path.as_slice()) {
+        return Err(Reject::NotAPlacement);
+    }
+    let distance = outcome(task, path).1;
+    Ok(Some(Standard { path, distance }))
+}
+
+/// Whether the key of the claimed path is at most that of a prefix with this bound.
+fn is_at_most(standard: &Standard<'_>, bound: u64, prefix: &[u8]) -> bool
+    ensures { IsTrue result ↔ IsAtMost (standard_key standard.now) (bound, prefix.now) }
+{
+    match standard.distance.cmp(&bound) {
+        Ordering::Less => true,
+        Ordering::Equal => !standard.path.as_slice().cmp(prefix).is_gt(),
+        Ordering::Greater => false,
+    }
+}
+
+/// Whether a path is claimed whose key is at most that of a prefix with this bound.
+pub fn is_at_least(evidence: &Evidence<'_>, bound: u64, prefix: &[u8]) -> bool
+    ensures { IsTrue result ↔ IsAtLeast evidence.now.standard (bound, prefix.now) }
+{
+    match &evidence.standard {
+        Some(standard) => is_at_most(standard, bound, prefix),
+        None => false,
+    }
+}
