@@ -1,6 +1,7 @@
 -- Facts about each argument and about its bytes.
-use Rattle.std.proofs.Common.{List, [], ◌∷◌, map, arith, Option, Some, None}
+use Rattle.std.proofs.Common.{◌≡◌, ℕ, true, bytes_eq, List, [], ◌∷◌, map, arith, Option, Some, None}
 use Rattle.std.proofs.lemmas.List.Elements.{All-cons, All-head, All-tail}
+use Rattle.std.proofs.lemmas.Slice.Eq.{bytes_eq-Decides}
 use Rattle.std.specs.Option.{IfNone}
 use Rattle.std.specs.Prelude.{All}
 
@@ -11,3 +12,6 @@ All-from_map P f (x ∷ xs) all = All-cons (λ y. P (f y)) x xs (All-head P (f x
 pub IfNone_then : {X : Type 0} (r : Option X) {A B : Type 0} → IfNone r A → (A → B) → IfNone r B
 IfNone_then None is then = then is
 IfNone_then (Some x) is then = tt
+
+pub same_bytes : (xs ys : List ℕ) → bytes_eq xs ys ≡ true → xs ≡ ys
+same_bytes xs ys equal = (bytes_eq-Decides xs ys).0 equal

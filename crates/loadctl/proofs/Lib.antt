@@ -1,4 +1,6 @@
 pub mod ArgumentLemmas
-pub mod TextLemmas
+pub mod FileLemmas
+pub mod JobLemmas
+pub mod AnswerLemmas
 pub mod ReplyLemmas
 pub mod RunLemmas

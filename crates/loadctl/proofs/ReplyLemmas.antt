@@ -1,112 +1,160 @@
--- Replies to the bytes of a file and to the arguments.
-use Rattle.std.proofs.Common.{◌≡◌, ◌≢◌, ⊎_elim, ℕ, ◌<◌, ◌≤◌, List, length, Option, Some, None, arith, refl, sym, ap, subst, ◌∙◌}
+-- Replies to the arguments: there is one job for them, and its input is right or refused, never both.
+use Rattle.std.proofs.Common.{◌≡◌, ◌≢◌, ℕ, ◌<◌, ◌≤◌, List, [], ◌∷◌, length, get_or, Option, Some, None, arith, lit<, refl, sym, ap, subst, ◌∙◌}
 use Rattle.std.specs.Option.{IsSomeAnd}
-use Rattle.load_io.specs.Shelf.{Files, IsWhole, HasMoreThan}
+use Rattle.std.specs.Prelude.{All, IfSome, codes}
+use Rattle.std.proofs.lemmas.List.Elements.{All-weaker}
+use Rattle.load_io.specs.Shelf.{Files}
+use Rattle.mass_units.specs.Spelling.{number_text}
+use Rattle.mass_units.proofs.SpellingLemmas.{number_text-injective}
+use Rattle.hold_parts.specs.Spellings.{IsName}
+use Rattle.hold_parts.specs.declared.parts.Position.{Position}
 use Rattle.hold_limits.specs.Problem.{Problem}
-use Rattle.hold_limits.specs.Placement.{IsBest}
-use Rattle.hold_limits.specs.Faults.{IsLawful}
-use Rattle.placer.specs.Search.{MoreViableThan, HasNoPlacement}
-use Rattle.problem_text.specs.TaskText.{Spells}
-use Rattle.problem_text.specs.Refusals.{IsRefused}
+use Rattle.problem_text.specs.TaskText.{IsSpelledPosition}
 use Rattle.problem_text.specs.declared.fault.TextFault.{TextFault}
 use Rattle.problem_text.specs.declared.fault.TextFault.TheVariants as text
-use Rattle.problem_text.proofs.RefusalLemmas.{lawful_not_refused}
+use Rattle.problem_text.proofs.RefusalLemmas.{spelled_once, lawful_not_refused}
+use Rattle.certificate.specs.declared.fault.CertFault.{CertFault}
+use Rattle.certificate.specs.declared.fault.CertFault.TheVariants as cert
+use Rattle.certificate.specs.declared.parts.Certificate.{Certificate}
+use Rattle.certificate.proofs.PathLemmas.{clear_names}
+use Rattle.certificate.proofs.ReadLemmas.{spelled_has_no_fault}
 use Rattle.loadctl.specs.declared.ending.Outcome.{Outcome}
-use Rattle.loadctl.specs.declared.ending.Outcome.TheVariants.{Plan, Usage, BadInput, NothingFits, OverBudget}
-use Rattle.loadctl.specs.Arguments.{IsPlaceCommand, AreInvalid}
-use Rattle.loadctl.specs.ReplyText.{longest_task, long_text, usage_text, plan_text, none_text, budget_text, IsFaultLine}
-use Rattle.loadctl.specs.Reply.{IsTaskIn, IsRefusal, IsAnswer, IsReply, NamesLawfulTask, NamesRefusedFile, IsVerdict}
-use Rattle.loadctl.specs.Reply.IsRefusal.{too_long, no_task}
-use Rattle.loadctl.specs.Reply.IsAnswer.{plan, nothing_fits, over_budget, bad_input}
-use Rattle.loadctl.specs.Reply.IsReply.{place, usage}
-use Rattle.loadctl.specs.Reply.IsVerdict.{is_plan, is_nothing_fits, is_over_budget}
+use Rattle.loadctl.specs.declared.ending.Outcome.TheVariants.{Done, Usage, BadInput, NothingFits, OverBudget, Rejected}
+use Rattle.loadctl.specs.Arguments.{Job, AskFor, IsCommand, AreInvalid}
+use Rattle.loadctl.specs.Arguments.Job.{place, check, generate}
+use Rattle.loadctl.specs.Arguments.AskFor.{place_usually, place_within, check_certificate, generate_load}
+use Rattle.loadctl.specs.ReplyText.{usage_text}
+use Rattle.loadctl.specs.Reply.{IsTaskIn, IsRefusal, IsCertificateIn, IsCertificateRefusal, IsTaskFile, IsCertificateFile, IsPlacing, IsJudgement, IsSummary, IsAnswer, IsBadInput, IsReply, HasInput, HaveInput, HaveBadInput, IsAnswered}
+use Rattle.loadctl.specs.Reply.IsRefusal.{too_long as task_too_long, no_task}
+use Rattle.loadctl.specs.Reply.IsCertificateRefusal.{too_long as certificate_too_long, no_certificate}
+use Rattle.loadctl.specs.Reply.IsPlacing.{plan, nothing_fits, over_budget}
+use Rattle.loadctl.specs.Reply.IsJudgement.{good, rejected}
+use Rattle.loadctl.specs.Reply.IsSummary.{plan_summed, none_summed, budget_summed}
+use Rattle.loadctl.specs.Reply.IsAnswer.{placed, judged, summed}
+use Rattle.loadctl.specs.Reply.IsBadInput.{bad_task, bad_checked_task, bad_certificate}
+use Rattle.loadctl.specs.Reply.IsReply.{answered, refused, usage}
+use Rattle.loadctl.specs.Reply.IsAnswered.{is_done, is_nothing_fits, is_over_budget, is_rejected}
 use Rattle.loadctl.specs.Run.{IsReplyOver}
 
--- Answers -----------------------------------------------------------------------------------------
+-- One job ---------------------------------------------------------------------------------------
 
-pub plan-answer : (bytes : List ℕ) (budget : ℕ) (t : Problem) (path text : List ℕ) → IsTaskIn bytes t → IsBest t path → text ≡ plan_text t path
-    → IsAnswer bytes budget Plan text
-plan-answer bytes budget t path text task best is = subst (IsAnswer bytes budget Plan) (sym is) (plan t path task best)
+-- the first letter of the first argument
+first_letter : List (List ℕ) → ℕ
+first_letter words = get_or (get_or words 0 []) 0 0
 
-pub none-answer : (bytes : List ℕ) (budget : ℕ) (t : Problem) (text : List ℕ) → IsTaskIn bytes t → HasNoPlacement t → text ≡ none_text
-    → IsAnswer bytes budget NothingFits text
-none-answer bytes budget t text task none is = subst (IsAnswer bytes budget NothingFits) (sym is) (nothing_fits t task none)
-
-pub budget-answer : (bytes : List ℕ) (budget spent : ℕ) (t : Problem) (text : List ℕ) → IsTaskIn bytes t → spent ≡ budget → MoreViableThan t spent
-    → text ≡ budget_text spent → IsAnswer bytes budget OverBudget text
-budget-answer bytes budget spent t text task same more is =
-    subst (IsAnswer bytes budget OverBudget) (sym (is ∙ ap budget_text same)) (over_budget t task (subst (MoreViableThan t) same more))
-
-pub refusal-answer : (bytes : List ℕ) (budget : ℕ) (fault : TextFault) (outcome : Outcome) (text : List ℕ) → length bytes ≤ longest_task → IsRefused bytes fault
-    → outcome ≡ BadInput → IsFaultLine fault text → IsAnswer bytes budget outcome text
-refusal-answer bytes budget fault outcome text short refused is line =
-    subst (λ o. IsAnswer bytes budget o text) (sym is) (bad_input text (no_task fault text short refused line))
-
-long-answer : (bytes : List ℕ) (budget : ℕ) (outcome : Outcome) (text : List ℕ) → longest_task < length bytes → outcome ≡ BadInput → text ≡ long_text
-    → IsAnswer bytes budget outcome text
-long-answer bytes budget outcome text long is line =
-    subst (λ o. IsAnswer bytes budget o text) (sym is) (subst (IsAnswer bytes budget BadInput) (sym line) (bad_input long_text (too_long long)))
-
--- a lawful task that the bytes spell, as a reader returns it
-pub IsTaskIn-from_read : (bytes : List ℕ) (t : Problem) → length bytes ≤ longest_task → Spells bytes t → IsLawful t → IsTaskIn bytes t
-IsTaskIn-from_read bytes t short spelled lawful = record { short = short; spelled = spelled; hold = lawful.hold.right; task = lawful.right }
-
--- a file with a lawful task is not refused
-not_refused : (bytes line : List ℕ) (t : Problem) → IsTaskIn bytes t → IsRefusal bytes line → ⊥
-not_refused bytes _ t task (too_long long) = absurd (omega (arith, task.short))
-not_refused bytes _ t task (no_task fault line short refused is) =
-    let none : fault ≡ text.NoMemory = lawful_not_refused bytes t fault task.spelled task.hold task.task refused in
-    rw none at is
-
-not_usage : (bytes : List ℕ) (budget : ℕ) (outcome : Outcome) (text : List ℕ) → IsAnswer bytes budget outcome text → outcome ≢ Usage
-not_usage bytes budget _ _ (plan t path task best) = λ e. cc
-not_usage bytes budget _ _ (nothing_fits t task none) = λ e. cc
-not_usage bytes budget _ _ (over_budget t task more) = λ e. cc
-not_usage bytes budget _ _ (bad_input line refused) = λ e. cc
-
-verdict-from_answer : (bytes : List ℕ) (budget : ℕ) (outcome : Outcome) (text : List ℕ) (t : Problem) → IsTaskIn bytes t → IsAnswer bytes budget outcome text
-    → IsVerdict outcome
-verdict-from_answer bytes budget _ _ t lawful (plan _ path task best) = is_plan
-verdict-from_answer bytes budget _ _ t lawful (nothing_fits _ task none) = is_nothing_fits
-verdict-from_answer bytes budget _ _ t lawful (over_budget _ task more) = is_over_budget
-verdict-from_answer bytes budget _ _ t lawful (bad_input line refused) = absurd (not_refused bytes line t lawful refused)
-
-bad_input-from_answer : (bytes : List ℕ) (budget : ℕ) (outcome : Outcome) (text line : List ℕ) → IsRefusal bytes line → IsAnswer bytes budget outcome text
-    → outcome ≡ BadInput
-bad_input-from_answer bytes budget _ _ line refused (plan t path task best) = absurd (not_refused bytes line t task refused)
-bad_input-from_answer bytes budget _ _ line refused (nothing_fits t task none) = absurd (not_refused bytes line t task refused)
-bad_input-from_answer bytes budget _ _ line refused (over_budget t task more) = absurd (not_refused bytes line t task refused)
-bad_input-from_answer bytes budget _ _ line refused (bad_input _ _) = refl
-
--- Replies -----------------------------------------------------------------------------------------
-
--- a place command names one file
-one_name : (arguments : List (List ℕ)) (a b : List ℕ) (m n : ℕ) → IsPlaceCommand arguments a m → IsPlaceCommand arguments b n → a ≡ b
-one_name arguments a b m n one other = ⊎_elim
-    (λ x. ⊎_elim (λ y. let same = sym x.0 ∙ y.0 in cc) (λ y. let same = sym x.0 ∙ y.0 in cc) other.form)
-    (λ x. ⊎_elim (λ y. let same = sym x.0 ∙ y.0 in cc) (λ y. let same = sym x.0 ∙ y.0 in cc) other.form)
-    one.form
-
--- and that file has one content
-one_file : (arguments : List (List ℕ)) (files : Files) (a b : List ℕ) (m n : ℕ) (xs ys : List ℕ) → IsPlaceCommand arguments a m → IsPlaceCommand arguments b n
-    → files a ≡ Some xs → files b ≡ Some ys → ys ≡ xs
-one_file arguments files a b m n xs ys one other here there =
-    let same : files a ≡ files b = ap files (one_name arguments a b m n one other) in
+one_form : (arguments : List (List ℕ)) (a b : Job) → AskFor arguments a → AskFor arguments b → a ≡ b
+unfolding first_letter
+one_form arguments _ _ (place_usually task is) (place_usually other same) = let e = sym is ∙ same in cc
+one_form arguments _ _ (place_usually task is) (place_within other n same low high) = let e = sym is ∙ same in absurd (cc e)
+one_form arguments _ _ (place_usually task is) (check_certificate other c same) = let e = sym is ∙ same in absurd (cc e)
+one_form arguments _ _ (place_usually task is) (generate_load n same fits) = let e : 112 ≡ 103 = ap first_letter (sym is ∙ same) in absurd (omega (arith, e))
+one_form arguments _ _ (place_within task m is low high) (place_usually other same) = let e = sym is ∙ same in absurd (cc e)
+one_form arguments _ _ (place_within task m is low high) (place_within other n same low_too high_too) =
+    let e = sym is ∙ same in
+    let number : m ≡ n = number_text-injective m n (cc e) in
+    cc
+one_form arguments _ _ (place_within task m is low high) (check_certificate other c same) = let e : 112 ≡ 99 = ap first_letter (sym is ∙ same) in absurd (omega (arith, e))
+one_form arguments _ _ (place_within task m is low high) (generate_load n same fits) = let e = sym is ∙ same in absurd (cc e)
+one_form arguments _ _ (check_certificate task c is) (place_usually other same) = let e = sym is ∙ same in absurd (cc e)
+one_form arguments _ _ (check_certificate task c is) (place_within other n same low high) = let e : 99 ≡ 112 = ap first_letter (sym is ∙ same) in absurd (omega (arith, e))
+one_form arguments _ _ (check_certificate task c is) (check_certificate other d same) = let e = sym is ∙ same in cc
+one_form arguments _ _ (check_certificate task c is) (generate_load n same fits) = let e = sym is ∙ same in absurd (cc e)
+one_form arguments _ _ (generate_load m is fits) (place_usually other same) = let e : 103 ≡ 112 = ap first_letter (sym is ∙ same) in absurd (omega (arith, e))
+one_form arguments _ _ (generate_load m is fits) (place_within other n same low high) = let e = sym is ∙ same in absurd (cc e)
+one_form arguments _ _ (generate_load m is fits) (check_certificate other c same) = let e = sym is ∙ same in absurd (cc e)
+one_form arguments _ _ (generate_load m is fits) (generate_load n same fits_too) =
+    let e = sym is ∙ same in
+    let number : m ≡ n = number_text-injective m n (cc e) in
     cc
 
-pub verdict-from_reply : (arguments : List (List ℕ)) (files : Files) (outcome : Outcome) (text : List ℕ) → NamesLawfulTask arguments files
-    → IsReply arguments files outcome text → IsVerdict outcome
-verdict-from_reply arguments files _ _ names (place task budget bytes outcome text command there is) =
-    let same : names.bytes ≡ bytes = one_file arguments files task names.file.name budget names.budget bytes names.bytes command names.file.command there names.file.there in
-    verdict-from_answer bytes budget outcome text names.t (subst (λ b. IsTaskIn b names.t) same names.lawful) is
-verdict-from_reply arguments files _ _ names (usage invalid) = absurd (invalid names.file.name names.budget names.file.command)
+-- Right and refused -----------------------------------------------------------------------------
 
-pub bad_input-from_reply : (arguments : List (List ℕ)) (files : Files) (outcome : Outcome) (text : List ℕ) → NamesRefusedFile arguments files
+-- what holds of the bytes of a file, twice
+both : {X : Type 0} (file : Option (List ℕ)) (P Q : List ℕ → Type 0) → IsSomeAnd file P → IsSomeAnd file Q → ((bytes : List ℕ) → P bytes → Q bytes → X) → X
+both None P Q p q then = absurd p
+both (Some bytes) P Q p q then = then bytes p q
+
+task-not_refused : (bytes line : List ℕ) (t : Problem) → IsTaskIn bytes t → IsRefusal bytes line → ⊥
+task-not_refused bytes _ t right (task_too_long long) = absurd (omega (arith, right.short))
+task-not_refused bytes _ t right (no_task fault line short why is) =
+    let none : fault ≡ text.NoMemory = lawful_not_refused bytes t fault right.spelled right.hold right.task why in
+    rw none at is
+
+-- the positions of a task that a text spells have names
+names : (bytes : List ℕ) (t : Problem) → IsTaskIn bytes t → All (λ (q : Position). IsName q.name) t.hold.positions
+names bytes t right = All-weaker IsSpelledPosition (λ (q : Position). IsName q.name) (λ q spelled. spelled.name) t.hold.positions right.spelled.spelled.positions
+
+certificate-not_refused : (t : Problem) (bytes line : List ℕ) (c : Certificate) → All (λ (q : Position). IsName q.name) t.hold.positions
+    → IsCertificateIn t bytes c → IsCertificateRefusal t bytes line → ⊥
+certificate-not_refused t bytes _ c named right (certificate_too_long long) = absurd (omega (arith, right.short))
+certificate-not_refused t bytes _ c named right (no_certificate fault line short why is) =
+    let ps = t.hold.positions in
+    let none : fault ≡ cert.NoMemory = spelled_has_no_fault ps (clear_names 32 ps (lit< tt) named) (clear_names 10 ps (lit< tt) named) bytes c fault right.spelled why in
+    rw none at is
+
+-- the files of a job are not refused where they are right
+right-not_bad : (files : Files) (job : Job) (line : List ℕ) → IsBadInput files job line → HasInput files job → ⊥
+right-not_bad files _ _ (bad_task task budget line wrong) input =
+    both (files task) (λ bytes. IsTaskIn bytes input.0) (λ bytes. IsRefusal bytes line) input.1 wrong (λ bytes right long. task-not_refused bytes line input.0 right long)
+right-not_bad files _ _ (bad_checked_task task certificate line wrong) input =
+    both (files task) (λ bytes. IsTaskIn bytes input.0) (λ bytes. IsRefusal bytes line) input.2 wrong (λ bytes right long. task-not_refused bytes line input.0 right long)
+right-not_bad files _ _ (bad_certificate task certificate t line there wrong) input =
+    both (files task) (λ bytes. IsTaskIn bytes input.0) (λ bytes. IsTaskIn bytes t) input.2 there
+    (λ bytes right other.
+    let same : input.0 ≡ t = spelled_once bytes input.0 t right.spelled other.spelled in
+    both (files certificate) (λ bytes. IsCertificateIn t bytes input.1) (λ bytes. IsCertificateRefusal t bytes line)
+    (subst (λ (p : Problem). IsCertificateFile files certificate p input.1) same input.3) wrong
+    (λ evidence whole refusal. certificate-not_refused t evidence line input.1 (names bytes t other) whole refusal))
+
+-- Answers ---------------------------------------------------------------------------------------
+
+pub placing-answered : (t : Problem) (budget : ℕ) (outcome : Outcome) (text : List ℕ) → IsPlacing t budget outcome text → IsAnswered outcome
+placing-answered t budget _ _ (plan path c best claim evidence) = is_done
+placing-answered t budget _ _ (nothing_fits c none claim evidence) = is_nothing_fits
+placing-answered t budget _ _ (over_budget more) = is_over_budget
+
+pub judgement-answered : (t : Problem) (c : Certificate) (outcome : Outcome) (text : List ℕ) → IsJudgement t c outcome text → IsAnswered outcome
+judgement-answered t c _ _ (good is) = is_done
+judgement-answered t c _ _ (rejected reason first) = is_rejected
+
+pub summary-answered : (number : ℕ) (outcome : Outcome) (text : List ℕ) → IsSummary number outcome text → IsAnswered outcome
+summary-answered number _ _ (plan_summed path c best claim evidence) = is_done
+summary-answered number _ _ (none_summed c none claim evidence) = is_done
+summary-answered number _ _ (budget_summed more) = is_over_budget
+
+answer-answered : (files : Files) (job : Job) (outcome : Outcome) (text : List ℕ) → IsAnswer files job outcome text → IsAnswered outcome
+answer-answered files _ _ _ (placed task budget t outcome text file is) = placing-answered t budget outcome text is
+answer-answered files _ _ _ (judged task certificate t c outcome text file evidence is) = judgement-answered t c outcome text is
+answer-answered files _ _ _ (summed number outcome text is) = summary-answered number outcome text is
+
+answer-input : (files : Files) (job : Job) (outcome : Outcome) (text : List ℕ) → IsAnswer files job outcome text → HasInput files job
+answer-input files _ _ _ (placed task budget t outcome text file is) = (t, file)
+answer-input files _ _ _ (judged task certificate t c outcome text file evidence is) = (t, c, file, evidence)
+answer-input files _ _ _ (summed number outcome text is) = tt
+
+pub answered-not_usage : (outcome : Outcome) → IsAnswered outcome → outcome ≢ Usage
+answered-not_usage _ is_done = λ e. cc
+answered-not_usage _ is_nothing_fits = λ e. cc
+answered-not_usage _ is_over_budget = λ e. cc
+answered-not_usage _ is_rejected = λ e. cc
+
+-- Replies ---------------------------------------------------------------------------------------
+
+pub answered-from_reply : (arguments : List (List ℕ)) (files : Files) (outcome : Outcome) (text : List ℕ) → HaveInput arguments files
+    → IsReply arguments files outcome text → IsAnswered outcome
+answered-from_reply arguments files _ _ input (answered job outcome text command is) = answer-answered files job outcome text is
+answered-from_reply arguments files _ _ input (refused job line command bad) =
+    let same : input.0 ≡ job = one_form arguments input.0 job input.1.form command.form in
+    absurd (right-not_bad files job line bad (subst (HasInput files) same input.2))
+answered-from_reply arguments files _ _ input (usage invalid) = absurd (invalid input.0 input.1)
+
+pub bad_input-from_reply : (arguments : List (List ℕ)) (files : Files) (outcome : Outcome) (text : List ℕ) → HaveBadInput arguments files
     → IsReply arguments files outcome text → outcome ≡ BadInput
-bad_input-from_reply arguments files _ _ names (place task budget bytes outcome text command there is) =
-    let same : names.bytes ≡ bytes = one_file arguments files task names.file.name budget names.budget bytes names.bytes command names.file.command there names.file.there in
-    bad_input-from_answer bytes budget outcome text names.line (subst (λ b. IsRefusal b names.line) same names.refusal) is
-bad_input-from_reply arguments files _ _ names (usage invalid) = absurd (invalid names.file.name names.budget names.file.command)
+bad_input-from_reply arguments files _ _ input (answered job outcome text command is) =
+    let same : input.0 ≡ job = one_form arguments input.0 job input.2.form command.form in
+    absurd (right-not_bad files job input.1 (subst (λ j. IsBadInput files j input.1) same input.3) (answer-input files job outcome text is))
+bad_input-from_reply arguments files _ _ input (refused job line command bad) = refl
+bad_input-from_reply arguments files _ _ input (usage invalid) = absurd (invalid input.0 input.2)
 
 pub usage-reply : (arguments : List (List ℕ)) (exposed : Option Files) (outcome : Outcome) (text : List ℕ) → AreInvalid arguments → outcome ≡ Usage → text ≡ usage_text
     → IsReplyOver arguments exposed outcome text
@@ -114,25 +162,12 @@ usage-reply arguments None outcome text invalid is line = tt
 usage-reply arguments (Some files) outcome text invalid is line =
     subst (λ o. IsReply arguments files o text) (sym is) (subst (IsReply arguments files Usage) (sym line) (usage invalid))
 
-pub place-reply : (arguments : List (List ℕ)) (exposed : Option Files) (task : List ℕ) (budget : ℕ) (items bytes : List ℕ) (outcome : Outcome) (text : List ℕ)
-    → IsPlaceCommand arguments task budget → IsWhole exposed task items → bytes ≡ items → IsAnswer bytes budget outcome text
-    → IsReplyOver arguments exposed outcome text
-place-reply arguments None task budget items bytes outcome text command there same is = tt
-place-reply arguments (Some files) task budget items bytes outcome text command there same is =
-    place task budget bytes outcome text command (there ∙ ap (λ xs. Some xs) (sym same)) is
+pub answered-reply : (arguments : List (List ℕ)) (exposed : Option Files) (job : Job) (outcome : Outcome) (text : List ℕ) → IsCommand arguments job
+    → IfSome exposed (λ files. IsAnswer files job outcome text) → IsReplyOver arguments exposed outcome text
+answered-reply arguments None job outcome text command is = tt
+answered-reply arguments (Some files) job outcome text command is = answered job outcome text command is
 
-file_of : (o : Option (List ℕ)) (P : List ℕ → Type 0) → IsSomeAnd o P → (bytes : List ℕ) × (o ≡ Some bytes) × P bytes
-file_of None P is = absurd is
-file_of (Some bytes) P is = (bytes, refl, is)
-
-pub long-reply : (arguments : List (List ℕ)) (exposed : Option Files) (task : List ℕ) (budget : ℕ) (outcome : Outcome) (text : List ℕ)
-    → IsPlaceCommand arguments task budget → HasMoreThan exposed task longest_task → outcome ≡ BadInput → text ≡ long_text
-    → IsReplyOver arguments exposed outcome text
-long-reply arguments None task budget outcome text command long is line = tt
-long-reply arguments (Some files) task budget outcome text command long is line =
-    let file = file_of (files task) (λ bytes. longest_task < length bytes) long in
-    place task budget file.0 outcome text command file.1 (long-answer file.0 budget outcome text file.2 is line)
-
--- the answer to a file is no report of invalid arguments
-pub answer-not_usage : (bytes : List ℕ) (budget : ℕ) (outcome : Outcome) (text : List ℕ) {A : Type 0} → IsAnswer bytes budget outcome text → outcome ≡ Usage → A
-answer-not_usage bytes budget outcome text is e = absurd (not_usage bytes budget outcome text is e)
+pub refused-reply : (arguments : List (List ℕ)) (exposed : Option Files) (job : Job) (line : List ℕ) → IsCommand arguments job
+    → IfSome exposed (λ files. IsBadInput files job line) → IsReplyOver arguments exposed BadInput line
+refused-reply arguments None job line command is = tt
+refused-reply arguments (Some files) job line command is = refused job line command is

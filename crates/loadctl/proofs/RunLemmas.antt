@@ -13,7 +13,7 @@ use Rattle.loadctl.specs.ReplyText.{usage_text}
 use Rattle.loadctl.specs.Reply.{IsReply}
 use Rattle.loadctl.specs.Run.{Outside, exit_status, IsReplyOver, IsRun, ExitsWith}
 use Rattle.loadctl.specs.Run.Ends.{replied, read_fault, write_fault, no_memory}
-use Rattle.loadctl.proofs.ReplyLemmas.{verdict-from_reply, bad_input-from_reply}
+use Rattle.loadctl.proofs.ReplyLemmas.{answered-from_reply, bad_input-from_reply}
 
 -- a reply over files that are exposed
 exposed_reply : (arguments : List (List ℕ)) (exposed : Option Files) (files : Files) (outcome : Outcome) (text : List ℕ) → exposed ≡ Some files
@@ -36,7 +36,7 @@ run-printed arguments before after outcome text bytes same is_reply usage invali
       record { invalid = (usage is).0; appended = subst (Appends before.output after.output) (same ∙ (usage is).1) appended };
   invalid = invalid;
   unread = λ _ e. cc;
-  complete = λ files exposed names. verdict-from_reply arguments files outcome text names (exposed_reply arguments before.files files outcome text exposed is_reply);
+  complete = λ files exposed names. answered-from_reply arguments files outcome text names (exposed_reply arguments before.files files outcome text exposed is_reply);
   refused = λ files exposed names. bad_input-from_reply arguments files outcome text names (exposed_reply arguments before.files files outcome text exposed is_reply);
 }
 

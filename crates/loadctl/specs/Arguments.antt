@@ -1,5 +1,5 @@
 -- The arguments of the program.
-use Rattle.std.specs.Prelude.{◌≡◌, ℕ, ◌≤◌, ◌⊎◌, List, [], ◌∷◌, All, take, map, codes, String, string_bytes}
+use Rattle.std.specs.Prelude.{◌≡◌, ℕ, ◌<◌, ◌≤◌, ◌^◌, List, [], ◌∷◌, All, take, map, codes, String, string_bytes}
 use Rattle.std.specs.declared.alloc.Global.{Global}
 use Rattle.mass_units.specs.Spelling.{number_text}
 
@@ -17,17 +17,33 @@ usual_budget = 20000
 abbrev pub greatest_budget : ℕ
 greatest_budget = 50000
 
--- the arguments are `place TASK`, with the usual budget, or `place TASK BUDGET`
-abbrev pub ArePlaceArguments : List (List ℕ) → List ℕ → ℕ → Type 0
-ArePlaceArguments arguments task budget =
-    ((arguments ≡ codes "place" ∷ task ∷ []) × (budget ≡ usual_budget))
-    ⊎ ((arguments ≡ codes "place" ∷ task ∷ number_text budget ∷ []) × (1 ≤ budget) × (budget ≤ greatest_budget))
+-- what the program can be asked for
+pub data Job : Type 0 where
+  -- the best placement of the task in a file, with a budget
+  place : (task : List ℕ) (budget : ℕ) → Job
+  -- whether a certificate in a file is good for the task in another
+  check : (task certificate : List ℕ) → Job
+  -- the placement of the load that is made from a number
+  generate : (number : ℕ) → Job
 
--- the arguments are a place command, for the task in this file and with this budget; none of them begins with a minus
-pub record IsPlaceCommand (arguments : List (List ℕ)) (task : List ℕ) (budget : ℕ) : Type 0 where
-  pub form : ArePlaceArguments arguments task budget
+-- the arguments that ask for a job
+pub data AskFor (arguments : List (List ℕ)) : Job → Type 0 where
+  -- `place TASK`
+  place_usually : (task : List ℕ) → arguments ≡ codes "place" ∷ task ∷ [] → AskFor arguments (place task usual_budget)
+  -- `place TASK BUDGET`
+  place_within : (task : List ℕ) (budget : ℕ) → arguments ≡ codes "place" ∷ task ∷ number_text budget ∷ [] → 1 ≤ budget → budget ≤ greatest_budget
+      → AskFor arguments (place task budget)
+  -- `check TASK CERTIFICATE`
+  check_certificate : (task certificate : List ℕ) → arguments ≡ codes "check" ∷ task ∷ certificate ∷ []
+      → AskFor arguments (check task certificate)
+  -- `gen NUMBER`
+  generate_load : (number : ℕ) → arguments ≡ codes "gen" ∷ number_text number ∷ [] → number < 2 ^ 32 → AskFor arguments (generate number)
+
+-- the arguments are a command for the job; none of them begins with a minus
+pub record IsCommand (arguments : List (List ℕ)) (job : Job) : Type 0 where
+  pub form : AskFor arguments job
   pub plain : All (λ argument. BeginsWithMinus argument → ⊥) arguments
 
 -- the arguments are not a command
 abbrev pub AreInvalid : List (List ℕ) → Type 0
-AreInvalid arguments = (task : List ℕ) (budget : ℕ) → IsPlaceCommand arguments task budget → ⊥
+AreInvalid arguments = (job : Job) → IsCommand arguments job → ⊥

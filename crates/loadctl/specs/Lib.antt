@@ -1,4 +1,7 @@
 pub mod Arguments
+pub mod Commands
+pub mod Halts
+pub mod Outcomes
 pub mod ReplyText
 pub mod Reply
 pub mod Run

@@ -1,17 +1,31 @@
--- The reply to the arguments, and to the bytes of a task's file.
-use Rattle.std.specs.Prelude.{◌≡◌, ℕ, ◌<◌, ◌≤◌, List, length, Some, None}
+-- The reply to the arguments, where these are the files.
+use Rattle.std.specs.Prelude.{◌≡◌, ℕ, ◌<◌, ◌≤◌, ◌⊎◌, List, length, Some, None, IsSomeAnd}
 use Rattle.hold_limits.specs.Problem.{Problem}
 use Rattle.hold_limits.specs.Placement.{IsBest}
 use Rattle.hold_limits.specs.Faults.{hold_fault, task_fault}
 use Rattle.problem_text.specs.TaskText.{Spells}
 use Rattle.problem_text.specs.Refusals.{IsRefused}
 use Rattle.problem_text.specs.declared.fault.TextFault.{TextFault}
-use Rattle.placer.specs.Search.{MoreViableThan, HasNoPlacement}
+use Rattle.certificate.specs.Evidence.{claimed}
+use Rattle.certificate.specs.Good.{AreAtMost}
+use Rattle.certificate.specs.CertificateText as certificate_text
+use Rattle.certificate.specs.Refusals as certificate_refusals
+use Rattle.certificate.specs.declared.fault.CertFault.{CertFault}
+use Rattle.certificate.specs.declared.parts.Certificate.{Certificate}
+use Rattle.cert_checker.specs.Claims.{HasNoPlacement, IsGoodFor}
+use Rattle.cert_checker.specs.FirstReason.{IsFirstReason}
+use Rattle.cert_checker.specs.declared.reject.Reject.{Reject}
+use Rattle.placer.specs.Near.{AreMoreThan, IsNear, IsNearCertificate}
+use Rattle.placer.specs.AnswerText.{evidence_text, budget_text}
+use Rattle.generated_load.specs.Load.{generated_problem}
 use Rattle.load_io.specs.Shelf.{Files}
 use Rattle.loadctl.specs.declared.ending.Outcome.{Outcome}
-use Rattle.loadctl.specs.declared.ending.Outcome.TheVariants.{Plan, Usage, BadInput, NothingFits, OverBudget}
-use Rattle.loadctl.specs.Arguments.{IsPlaceCommand, AreInvalid}
-use Rattle.loadctl.specs.ReplyText.{longest_task, IsFaultLine, plan_text, none_text, budget_text, long_text, usage_text}
+use Rattle.loadctl.specs.declared.ending.Outcome.TheVariants.{Done, Usage, BadInput, NothingFits, OverBudget, Rejected}
+use Rattle.loadctl.specs.Arguments.{Job, IsCommand, AreInvalid, usual_budget}
+use Rattle.loadctl.specs.Arguments.Job.{place, check, generate}
+use Rattle.loadctl.specs.ReplyText.{longest_task, longest_certificate, IsFaultLine, IsCertificateFaultLine, long_text, usage_text, good_text, rejected_text, plan_summary, none_summary, budget_summary}
+
+-- Files -----------------------------------------------------------------------------------------
 
 -- the bytes of a file are not too many, and spell this lawful task
 pub record IsTaskIn (bytes : List ℕ) (t : Problem) : Type 0 where
@@ -20,7 +34,7 @@ pub record IsTaskIn (bytes : List ℕ) (t : Problem) : Type 0 where
   pub hold : hold_fault t.hold ≡ None
   pub task : task_fault t ≡ None
 
--- the bytes of a file are refused with this line
+-- the bytes of a task's file are refused with this line
 pub data IsRefusal (bytes : List ℕ) : List ℕ → Type 0 where
   -- they are too many
   too_long : longest_task < length bytes → IsRefusal bytes long_text
@@ -28,49 +42,109 @@ pub data IsRefusal (bytes : List ℕ) : List ℕ → Type 0 where
   no_task : (fault : TextFault) (line : List ℕ) → length bytes ≤ longest_task → IsRefused bytes fault → IsFaultLine fault line
       → IsRefusal bytes line
 
--- the reply to the bytes of a file and a budget: an outcome and its text
-pub data IsAnswer (bytes : List ℕ) (budget : ℕ) : Outcome → List ℕ → Type 0 where
-  -- the best plan
-  plan : (t : Problem) (path : List ℕ) → IsTaskIn bytes t → IsBest t path → IsAnswer bytes budget Plan (plan_text t path)
-  -- nothing fits, and no path is admissible
-  nothing_fits : (t : Problem) → IsTaskIn bytes t → HasNoPlacement t → IsAnswer bytes budget NothingFits none_text
-  -- there are more viable prefixes than the budget
-  over_budget : (t : Problem) → IsTaskIn bytes t → MoreViableThan t budget → IsAnswer bytes budget OverBudget (budget_text budget)
-  -- the file is refused
-  bad_input : (line : List ℕ) → IsRefusal bytes line → IsAnswer bytes budget BadInput line
+-- the bytes of a file are not too many, and spell this certificate for the task
+pub record IsCertificateIn (t : Problem) (bytes : List ℕ) (c : Certificate) : Type 0 where
+  pub short : length bytes ≤ longest_certificate
+  pub spelled : certificate_text.Spells t.hold.positions bytes c
 
--- the reply to the arguments, where these are the files
+-- the bytes of a certificate's file are refused with this line
+pub data IsCertificateRefusal (t : Problem) (bytes : List ℕ) : List ℕ → Type 0 where
+  -- they are too many
+  too_long : longest_certificate < length bytes → IsCertificateRefusal t bytes long_text
+  -- they spell no certificate: this is their first fault
+  no_certificate : (fault : CertFault) (line : List ℕ) → length bytes ≤ longest_certificate
+      → certificate_refusals.IsRefused t.hold.positions bytes fault → IsCertificateFaultLine fault line → IsCertificateRefusal t bytes line
+
+-- there is a file of this name, and this holds of its bytes
+abbrev pub Holds : Files → List ℕ → (List ℕ → Type 0) → Type 0
+Holds files name P = IsSomeAnd (files name) P
+
+abbrev pub IsTaskFile : Files → List ℕ → Problem → Type 0
+IsTaskFile files name t = Holds files name (λ bytes. IsTaskIn bytes t)
+
+abbrev pub IsRefusedTask : Files → List ℕ → List ℕ → Type 0
+IsRefusedTask files name line = Holds files name (λ bytes. IsRefusal bytes line)
+
+abbrev pub IsCertificateFile : Files → List ℕ → Problem → Certificate → Type 0
+IsCertificateFile files name t c = Holds files name (λ bytes. IsCertificateIn t bytes c)
+
+abbrev pub IsRefusedCertificate : Files → List ℕ → Problem → List ℕ → Type 0
+IsRefusedCertificate files name t line = Holds files name (λ bytes. IsCertificateRefusal t bytes line)
+
+-- Answers ---------------------------------------------------------------------------------------
+
+-- the near certificate of the task, of which no more prefixes are near than the budget
+pub record IsEvidence (t : Problem) (budget : ℕ) (c : Certificate) : Type 0 where
+  pub near : IsNearCertificate t c
+  pub enough : AreAtMost (IsNear t) budget
+
+-- the placement of a task with a budget: an outcome and its text
+pub data IsPlacing (t : Problem) (budget : ℕ) : Outcome → List ℕ → Type 0 where
+  -- the best plan
+  plan : (path : List ℕ) (c : Certificate) → IsBest t path → claimed c.claim ≡ Some path → IsEvidence t budget c
+      → IsPlacing t budget Done (evidence_text t c)
+  -- nothing fits, and no path is admissible
+  nothing_fits : (c : Certificate) → HasNoPlacement t → claimed c.claim ≡ None → IsEvidence t budget c
+      → IsPlacing t budget NothingFits (evidence_text t c)
+  -- more prefixes are near than the budget
+  over_budget : AreMoreThan (IsNear t) budget → IsPlacing t budget OverBudget (budget_text budget)
+
+-- the judgement of a certificate for a task
+pub data IsJudgement (t : Problem) (c : Certificate) : Outcome → List ℕ → Type 0 where
+  good : IsGoodFor t c → IsJudgement t c Done (good_text c.claim)
+  -- this is the first reason for which it is not good
+  rejected : (reason : Reject) → IsFirstReason t (claimed c.claim) c.cuts c.expanded reason
+      → IsJudgement t c Rejected (rejected_text t reason)
+
+-- the summary of the placement of a generated load
+pub data IsSummary (number : ℕ) : Outcome → List ℕ → Type 0 where
+  plan_summed : (path : List ℕ) (c : Certificate) → IsBest (generated_problem number) path → claimed c.claim ≡ Some path
+      → IsEvidence (generated_problem number) usual_budget c → IsSummary number Done (plan_summary number path c)
+  none_summed : (c : Certificate) → HasNoPlacement (generated_problem number) → claimed c.claim ≡ None
+      → IsEvidence (generated_problem number) usual_budget c → IsSummary number Done (none_summary number c)
+  budget_summed : AreMoreThan (IsNear (generated_problem number)) usual_budget → IsSummary number OverBudget (budget_summary number)
+
+-- the answer to a job whose files are there and right
+pub data IsAnswer (files : Files) : Job → Outcome → List ℕ → Type 0 where
+  placed : (task : List ℕ) (budget : ℕ) (t : Problem) (outcome : Outcome) (text : List ℕ) → IsTaskFile files task t → IsPlacing t budget outcome text
+      → IsAnswer files (place task budget) outcome text
+  judged : (task certificate : List ℕ) (t : Problem) (c : Certificate) (outcome : Outcome) (text : List ℕ) → IsTaskFile files task t
+      → IsCertificateFile files certificate t c → IsJudgement t c outcome text → IsAnswer files (check task certificate) outcome text
+  summed : (number : ℕ) (outcome : Outcome) (text : List ℕ) → IsSummary number outcome text → IsAnswer files (generate number) outcome text
+
+-- the first file of a job that is refused, and its line
+pub data IsBadInput (files : Files) : Job → List ℕ → Type 0 where
+  bad_task : (task : List ℕ) (budget : ℕ) (line : List ℕ) → IsRefusedTask files task line → IsBadInput files (place task budget) line
+  bad_checked_task : (task certificate line : List ℕ) → IsRefusedTask files task line → IsBadInput files (check task certificate) line
+  bad_certificate : (task certificate : List ℕ) (t : Problem) (line : List ℕ) → IsTaskFile files task t → IsRefusedCertificate files certificate t line
+      → IsBadInput files (check task certificate) line
+
+-- the reply to the arguments: an outcome and its text
 pub data IsReply (arguments : List (List ℕ)) (files : Files) : Outcome → List ℕ → Type 0 where
-  -- the answer to the file that a place command names
-  place : (task : List ℕ) (budget : ℕ) (bytes : List ℕ) (outcome : Outcome) (text : List ℕ) → IsPlaceCommand arguments task budget
-      → files task ≡ Some bytes → IsAnswer bytes budget outcome text → IsReply arguments files outcome text
-  -- the arguments are invalid
+  answered : (job : Job) (outcome : Outcome) (text : List ℕ) → IsCommand arguments job → IsAnswer files job outcome text
+      → IsReply arguments files outcome text
+  refused : (job : Job) (line : List ℕ) → IsCommand arguments job → IsBadInput files job line → IsReply arguments files BadInput line
   usage : AreInvalid arguments → IsReply arguments files Usage usage_text
 
--- the arguments are a place command for a file with these bytes
-pub record NamesFile (arguments : List (List ℕ)) (files : Files) (budget : ℕ) (bytes : List ℕ) : Type 0 where
-  pub name : List ℕ
-  pub command : IsPlaceCommand arguments name budget
-  pub there : files name ≡ Some bytes
+-- Complete --------------------------------------------------------------------------------------
 
--- the arguments are a place command for a file that spells a lawful task
-pub record NamesLawfulTask (arguments : List (List ℕ)) (files : Files) : Type 0 where
-  pub budget : ℕ
-  pub bytes : List ℕ
-  pub t : Problem
-  pub file : NamesFile arguments files budget bytes
-  pub lawful : IsTaskIn bytes t
+-- the files of a job are there and right
+abbrev pub HasInput : Files → Job → Type 0
+HasInput files (place task budget) = (t : Problem) × IsTaskFile files task t
+HasInput files (check task certificate) = (t : Problem) × (c : Certificate) × IsTaskFile files task t × IsCertificateFile files certificate t c
+HasInput files (generate number) = Unit {0}
 
--- the arguments are a place command for a file that is refused
-pub record NamesRefusedFile (arguments : List (List ℕ)) (files : Files) : Type 0 where
-  pub budget : ℕ
-  pub bytes : List ℕ
-  pub line : List ℕ
-  pub file : NamesFile arguments files budget bytes
-  pub refusal : IsRefusal bytes line
+-- the arguments are a command whose files are there and right
+abbrev pub HaveInput : List (List ℕ) → Files → Type 0
+HaveInput arguments files = (job : Job) × IsCommand arguments job × HasInput files job
 
--- the outcome answers the task
-pub data IsVerdict : Outcome → Type 0 where
-  is_plan : IsVerdict Plan
-  is_nothing_fits : IsVerdict NothingFits
-  is_over_budget : IsVerdict OverBudget
+-- the arguments are a command of which a file is refused
+abbrev pub HaveBadInput : List (List ℕ) → Files → Type 0
+HaveBadInput arguments files = (job : Job) × (line : List ℕ) × IsCommand arguments job × IsBadInput files job line
+
+-- the outcome answers the job
+pub data IsAnswered : Outcome → Type 0 where
+  is_done : IsAnswered Done
+  is_nothing_fits : IsAnswered NothingFits
+  is_over_budget : IsAnswered OverBudget
+  is_rejected : IsAnswered Rejected

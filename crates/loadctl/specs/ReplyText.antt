@@ -1,55 +1,41 @@
 -- What the program prints.
-use Rattle.std.specs.Prelude.{◌≡◌, ℕ, pos, List, [], ◌∷◌, ◌++◌, map, codes}
-use Rattle.mass_units.specs.Spelling.{number_text, signed_text, index_text}
+use Rattle.std.specs.Prelude.{◌≡◌, ℕ, List, [], ◌∷◌, ◌++◌, length, map, sum_by, codes}
+use Rattle.mass_units.specs.Spelling.{number_text}
+use Rattle.hold_parts.specs.declared.parts.Item.{Item}
 use Rattle.hold_limits.specs.declared.fault.HoldFault.{HoldFault}
 use Rattle.hold_limits.specs.declared.fault.HoldFault.TheVariants as hold
 use Rattle.hold_limits.specs.declared.fault.TaskFault.{TaskFault}
 use Rattle.hold_limits.specs.declared.fault.TaskFault.TheVariants as task
-use Rattle.hold_limits.specs.Layout.{Layout, name_at}
 use Rattle.hold_limits.specs.Problem.{Problem}
-use Rattle.hold_limits.specs.Placement.{Placed, placed, take_off_index, distance, lateral_difference}
-use Rattle.std.specs.Option.{option_map_or}
-use Rattle.hold_parts.specs.declared.parts.Lateral.{Lateral}
 use Rattle.text_lines.specs.Lines.{line_of, text_of}
 use Rattle.problem_text.specs.declared.fault.TextFault.{TextFault}
 use Rattle.problem_text.specs.declared.fault.TextFault.TheVariants as text
-
--- a line of these words
-abbrev pub one_line : List (List ℕ) → List ℕ
-one_line words = text_of (line_of words ∷ [])
-
--- `place ID NAME`: a container and its position
-abbrev pub place_line : Layout → Placed → List ℕ
-place_line hold p = line_of (codes "place" ∷ p.0.id ∷ name_at hold.positions p.1 ∷ [])
-
-abbrev pub place_lines : Problem → List Placed → List (List ℕ)
-place_lines t containers = map (place_line t.hold) containers
-
--- `lateral DIFFERENCE`, in kilograms, where the hold has a lateral limit
-abbrev pub difference_lines : Problem → List ℕ → List (List ℕ)
-difference_lines t path =
-    option_map_or (λ (limit : Lateral). line_of (codes "lateral" ∷ signed_text (lateral_difference t path) ∷ []) ∷ []) t.hold.lateral []
-
--- a plan: its containers in branch order with their positions, the take-off index, its distance from the ideal, and the
--- lateral difference
-abbrev pub plan_lines : Problem → List ℕ → List (List ℕ)
-plan_lines t path =
-    (codes "PLAN" ∷ [])
-    ++ place_lines t (placed t path)
-    ++ (line_of (codes "index" ∷ index_text (take_off_index t path) ∷ []) ∷ line_of (codes "distance" ∷ index_text (pos (distance t path)) ∷ []) ∷ [])
-    ++ difference_lines t path
-
-abbrev pub plan_text : Problem → List ℕ → List ℕ
-plan_text t path = text_of (plan_lines t path)
-
-abbrev pub none_text : List ℕ
-none_text = one_line (codes "NONE" ∷ [])
-
-abbrev pub budget_text : ℕ → List ℕ
-budget_text budget = one_line (codes "BUDGET" ∷ number_text budget ∷ [])
+use Rattle.plan_text.specs.PlanText.{one_line, balance_lines}
+use Rattle.certificate.specs.CertificateText.{path_line}
+use Rattle.certificate.specs.declared.fault.CertFault.{CertFault}
+use Rattle.certificate.specs.declared.fault.CertFault.TheVariants as cert
+use Rattle.certificate.specs.declared.parts.Claim.{Claim}
+use Rattle.certificate.specs.declared.parts.Claim.TheVariants.{Best, NoneFits}
+use Rattle.certificate.specs.declared.parts.Certificate.{Certificate}
+use Rattle.cert_checker.specs.declared.reject.Reject.{Reject}
+use Rattle.cert_checker.specs.declared.reject.Reject.TheVariants.{NotAPlacement, CutOrder, CutNotViable, CutWeak, Nearer, Exists, MoreExpanded}
+use Rattle.generated_load.specs.Load.{generated_problem}
+use Rattle.loadctl.specs.Arguments.{usual_budget}
 
 abbrev pub usage_text : List ℕ
 usage_text = one_line (codes "USAGE" ∷ [])
+
+-- Refused files ---------------------------------------------------------------------------------
+
+-- a file of a task, and one of a certificate, has at most so many bytes
+abbrev pub longest_task : ℕ
+longest_task = 1048576
+
+abbrev pub longest_certificate : ℕ
+longest_certificate = 805306368
+
+abbrev pub long_text : List ℕ
+long_text = one_line (codes "INPUT" ∷ codes "LONG" ∷ [])
 
 -- a line that reports a fault of the input: its kind and a number
 abbrev pub input_text : List ℕ → ℕ → List ℕ
@@ -77,17 +63,63 @@ task_fault_number (task.LooseTwice at) = 5
 task_fault_number (task.LooseTooHeavy at) = 6
 task_fault_number (task.Range which) = 7
 
--- a task's file has at most so many bytes
-abbrev pub longest_task : ℕ
-longest_task = 1048576
-
-abbrev pub long_text : List ℕ
-long_text = one_line (codes "INPUT" ∷ codes "LONG" ∷ [])
-
--- the line for a fault of a text; out of memory has none
+-- the line for a fault of a task's text; out of memory has none
 abbrev pub IsFaultLine : TextFault → List ℕ → Type 0
 IsFaultLine (text.Line n) line = line ≡ input_text (codes "LINE") n
 IsFaultLine text.NoEnd line = line ≡ one_line (codes "INPUT" ∷ codes "END" ∷ [])
 IsFaultLine (text.Hold fault) line = line ≡ input_text (codes "HOLD") (hold_fault_number fault)
 IsFaultLine (text.Task fault) line = line ≡ input_text (codes "TASK") (task_fault_number fault)
 IsFaultLine text.NoMemory line = ⊥
+
+-- the line for a fault of a certificate's text
+abbrev pub IsCertificateFaultLine : CertFault → List ℕ → Type 0
+IsCertificateFaultLine cert.NoStart line = line ≡ one_line (codes "INPUT" ∷ codes "START" ∷ [])
+IsCertificateFaultLine (cert.Line n) line = line ≡ input_text (codes "LINE") n
+IsCertificateFaultLine cert.NoEnd line = line ≡ one_line (codes "INPUT" ∷ codes "END" ∷ [])
+IsCertificateFaultLine cert.NoMemory line = ⊥
+
+-- Judged certificates ---------------------------------------------------------------------------
+
+abbrev pub good_text : Claim → List ℕ
+good_text (Best path) = one_line (codes "GOOD" ∷ codes "BEST" ∷ [])
+good_text NoneFits = one_line (codes "GOOD" ∷ codes "NONE" ∷ [])
+
+-- a reason with the place of a cut
+abbrev pub rejected_cut_text : ℕ → ℕ → List ℕ
+rejected_cut_text reason at = one_line (codes "REJECTED" ∷ number_text reason ∷ number_text at ∷ [])
+
+-- the reason with its place, or with the names of the positions of its path
+abbrev pub rejected_text : Problem → Reject → List ℕ
+rejected_text t NotAPlacement = one_line (codes "REJECTED 1" ∷ [])
+rejected_text t (CutOrder at) = rejected_cut_text 2 at
+rejected_text t (CutNotViable at) = rejected_cut_text 3 at
+rejected_text t (CutWeak at) = rejected_cut_text 4 at
+rejected_text t (Nearer path) = text_of (path_line (codes "REJECTED 5") t.hold.positions path.items ∷ [])
+rejected_text t (Exists path) = text_of (path_line (codes "REJECTED 6") t.hold.positions path.items ∷ [])
+rejected_text t MoreExpanded = one_line (codes "REJECTED 7" ∷ [])
+
+-- Summaries of generated loads ------------------------------------------------------------------
+
+-- a word and a number
+abbrev pub number_line : List ℕ → ℕ → List ℕ
+number_line word n = line_of (word ∷ number_text n ∷ [])
+
+abbrev pub total_mass : List Item → ℕ
+total_mass items = sum_by (λ (item : Item). item.mass.0) items
+
+-- the number of the load, and the mass of its containers
+abbrev pub load_lines : ℕ → List (List ℕ)
+load_lines number = number_line (codes "GEN") number ∷ number_line (codes "mass") (total_mass (generated_problem number).items) ∷ []
+
+-- how many cuts the certificate has, and how many prefixes were looked at
+abbrev pub count_lines : Certificate → List (List ℕ)
+count_lines c = number_line (codes "cuts") (length c.cuts) ∷ number_line (codes "expanded") c.expanded ∷ codes "END" ∷ []
+
+abbrev pub plan_summary : ℕ → List ℕ → Certificate → List ℕ
+plan_summary number path c = text_of (load_lines number ++ (codes "PLAN" ∷ []) ++ balance_lines (generated_problem number) path ++ count_lines c)
+
+abbrev pub none_summary : ℕ → Certificate → List ℕ
+none_summary number c = text_of (load_lines number ++ (codes "NONE" ∷ []) ++ count_lines c)
+
+abbrev pub budget_summary : ℕ → List ℕ
+budget_summary number = text_of (load_lines number ++ (number_line (codes "BUDGET") usual_budget ∷ []))

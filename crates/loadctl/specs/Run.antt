@@ -4,20 +4,21 @@ use Rattle.desk_base.specs.Faults.{Rose}
 use Rattle.load_io.specs.Shelf.{Files}
 use Rattle.load_io.specs.Sink.{Appends, AppendsPart}
 use Rattle.loadctl.specs.declared.ending.Outcome.{Outcome}
-use Rattle.loadctl.specs.declared.ending.Outcome.TheVariants.{Plan, Usage, BadInput, NothingFits, OverBudget}
+use Rattle.loadctl.specs.declared.ending.Outcome.TheVariants.{Done, Usage, BadInput, NothingFits, OverBudget, Rejected}
 use Rattle.loadctl.specs.declared.ending.Stop.{Stop}
 use Rattle.loadctl.specs.declared.ending.Stop.TheVariants.{ReadFault, WriteFault, NoMemory}
 use Rattle.loadctl.specs.Arguments.{AreInvalid}
 use Rattle.loadctl.specs.ReplyText.{usage_text}
-use Rattle.loadctl.specs.Reply.{IsReply, IsVerdict, NamesLawfulTask, NamesRefusedFile}
+use Rattle.loadctl.specs.Reply.{IsReply, IsAnswered, HaveInput, HaveBadInput}
 
 -- the exit status
 abbrev pub exit_status : Result Outcome Stop → ℕ
-exit_status (Ok Plan) = 0
+exit_status (Ok Done) = 0
 exit_status (Ok Usage) = 2
 exit_status (Ok BadInput) = 3
 exit_status (Ok NothingFits) = 4
 exit_status (Ok OverBudget) = 5
+exit_status (Ok Rejected) = 10
 exit_status (Err ReadFault) = 6
 exit_status (Err WriteFault) = 7
 exit_status (Err NoMemory) = 9
@@ -42,7 +43,7 @@ pub data Ends (arguments : List (List ℕ)) (before after : Outside) : Result Ou
   replied : (outcome : Outcome) (text : List ℕ) → IsReplyOver arguments before.files outcome text → Appends before.output after.output text
       → after.failed_reads ≡ before.failed_reads → after.failed_writes ≡ before.failed_writes
       → Ends arguments before after (Ok outcome)
-  -- the file could not be read, and nothing was printed
+  -- a file could not be read, and nothing was printed
   read_fault : Rose before.failed_reads after.failed_reads → after.output ≡ before.output
       → after.failed_writes ≡ before.failed_writes → Ends arguments before after (Err ReadFault)
   -- a write failed, and a proper prefix of the reply was printed
@@ -67,10 +68,10 @@ pub record IsRun (arguments : List (List ℕ)) (before after : Outside) (ending 
   pub usage : ending ≡ Ok Usage → IsUsage arguments before after
   pub invalid : AreInvalid arguments → IfOk ending (λ outcome. outcome ≡ Usage)
   pub unread : AreInvalid arguments → ending ≢ Err ReadFault
-  -- a file with a lawful task is answered
-  pub complete : (files : Files) → before.files ≡ Some files → NamesLawfulTask arguments files → IfOk ending IsVerdict
-  -- any other file is refused
-  pub refused : (files : Files) → before.files ≡ Some files → NamesRefusedFile arguments files → IfOk ending (λ outcome. outcome ≡ BadInput)
+  -- a command whose files are there and right is answered
+  pub complete : (files : Files) → before.files ≡ Some files → HaveInput arguments files → IfOk ending IsAnswered
+  -- a wrong file is refused
+  pub refused : (files : Files) → before.files ≡ Some files → HaveBadInput arguments files → IfOk ending (λ outcome. outcome ≡ BadInput)
 
 -- a run with these arguments that exits with this status
 pub record ExitsWith (arguments : List (List ℕ)) (before after : Outside) (status : ℕ) : Type 0 where

@@ -1,22 +1,27 @@
 //! The arguments of the program.
 
-ghost use Rattle.std.specs.Prelude.{◌≡◌, ◌≤◌, ◌↔◌, ◌∷◌, [], All, IsTrue, IfSome, IfNone, List, ℕ, codes, string_bytes};
+ghost use Rattle.std.specs.Prelude.{◌≡◌, ◌≤◌, ◌<◌, ◌^◌, ◌↔◌, ◌∷◌, [], All, IsTrue, IfSome, IfNone, List, ℕ, codes, string_bytes};
 ghost use Rattle.mass_units.specs.Spelling.{number_text};
-ghost use Rattle.loadctl.specs.Arguments.{arguments_of, greatest_budget, BeginsWithMinus, ArePlaceArguments, IsPlaceCommand, AreInvalid};
+ghost use Rattle.loadctl.specs.Arguments.{arguments_of, greatest_budget, BeginsWithMinus, Job, AskFor, IsCommand, AreInvalid};
+ghost use Rattle.loadctl.specs.Commands.{job_of};
 
-use mass_units::read_number;
+use mass_units::{read_long_number, read_number};
 
 /// The budget of a search if the arguments name none.
-const USUAL_BUDGET: u32 = 20_000;
+pub const USUAL_BUDGET: u32 = 20_000;
 
 const GREATEST_BUDGET: u32 = 50_000;
 
-/// `place TASK` or `place TASK BUDGET`: the best placement of a task in a file.
+/// What the arguments ask for.
 #[derive(Clone, Copy, Debug)]
-pub struct PlaceCommand<'a> {
-    pub task: &'a str,
-    /// How many viable prefixes the search may look at.
-    pub budget: u32,
+pub enum Command<'a> {
+    /// `place TASK` or `place TASK BUDGET`: the best placement of the task in a file. The budget is how many near
+    /// prefixes the search may look at.
+    Place { task: &'a str, budget: u32 },
+    /// `check TASK CERTIFICATE`: whether the certificate in a file is good for the task in another.
+    Check { task: &'a str, certificate: &'a str },
+    /// `gen NUMBER`: the best placement of the load that is made from the number.
+    Generate { number: u32 },
 }
 
 fn begins_with_minus(argument: &str) -> bool
@@ -40,52 +45,64 @@ fn budget_from(argument: &str) -> Option<u32>
     read_number(argument.as_bytes()).filter(|budget| (1..=GREATEST_BUDGET).contains(budget))
 }
 
-/// `place TASK`.
-fn with_usual_budget<'a>(command: &str, task: &'a str) -> Option<PlaceCommand<'a>>
-    ensures some { IfSome result
-        (λ place. ArePlaceArguments (command.now ∷ task.now ∷ []) place.task.now place.budget) }
-    ensures none { IfNone result (command.now ≡ codes "place" → ⊥) }
+fn number_from(argument: &str) -> Option<u32>
+    ensures some { IfSome result (λ n. (argument.now ≡ number_text n) × (n < 2 ^ 32)) }
+    ensures none { IfNone result ((n : ℕ) → n < 2 ^ 32 → argument.now ≡ number_text n → ⊥) }
 {
-    if command != "place" {
-        return None;
-    }
-    Some(PlaceCommand {
-        task,
-        budget: USUAL_BUDGET,
-    })
+    read_long_number(argument.as_bytes())
 }
 
-/// `place TASK BUDGET`.
-fn with_budget<'a>(command: &str, task: &'a str, budget: &str) -> Option<PlaceCommand<'a>>
-    ensures some { IfSome result (λ place.
-        ArePlaceArguments (command.now ∷ task.now ∷ budget.now ∷ []) place.task.now place.budget) }
-    ensures none { IfNone result ((n : ℕ) → 1 ≤ n → n ≤ greatest_budget
-        → command.now ≡ codes "place" → budget.now ≡ number_text n → ⊥) }
+/// `place TASK`, or `gen NUMBER`.
+fn with_one_operand<'a>(name: &str, operand: &'a str) -> Option<Command<'a>>
+    ensures some { IfSome result (λ command. AskFor (name.now ∷ operand.now ∷ []) (job_of command)) }
+    ensures none { IfNone result ((job : Job) → AskFor (name.now ∷ operand.now ∷ []) job → ⊥) }
 {
-    if command != "place" {
-        return None;
+    if name == "place" {
+        return Some(Command::Place {
+            task: operand,
+            budget: USUAL_BUDGET,
+        });
     }
-    let budget = budget_from(budget)?;
-    Some(PlaceCommand { task, budget })
+    if name == "gen" {
+        let number = number_from(operand)?;
+        return Some(Command::Generate { number });
+    }
+    None
 }
 
-fn form_of(arguments: &[String]) -> Option<PlaceCommand<'_>>
+/// `place TASK BUDGET`, or `check TASK CERTIFICATE`.
+fn with_two_operands<'a>(name: &str, task: &'a str, other: &'a str) -> Option<Command<'a>>
     ensures some { IfSome result
-        (λ place. ArePlaceArguments (arguments_of arguments.now) place.task.now place.budget) }
-    ensures none { IfNone result ((task : List ℕ) (budget : ℕ)
-        → ArePlaceArguments (arguments_of arguments.now) task budget → ⊥) }
+        (λ command. AskFor (name.now ∷ task.now ∷ other.now ∷ []) (job_of command)) }
+    ensures none { IfNone result ((job : Job) → AskFor (name.now ∷ task.now ∷ other.now ∷ []) job → ⊥) }
+{
+    if name == "place" {
+        let budget = budget_from(other)?;
+        return Some(Command::Place { task, budget });
+    }
+    if name == "check" {
+        return Some(Command::Check {
+            task,
+            certificate: other,
+        });
+    }
+    None
+}
+
+fn form_of(arguments: &[String]) -> Option<Command<'_>>
+    ensures some { IfSome result (λ command. AskFor (arguments_of arguments.now) (job_of command)) }
+    ensures none { IfNone result ((job : Job) → AskFor (arguments_of arguments.now) job → ⊥) }
 {
     match arguments {
-        [command, task] => with_usual_budget(command.as_str(), task.as_str()),
-        [command, task, budget] => with_budget(command.as_str(), task.as_str(), budget.as_str()),
+        [name, operand] => with_one_operand(name.as_str(), operand.as_str()),
+        [name, task, other] => with_two_operands(name.as_str(), task.as_str(), other.as_str()),
         _ => None,
     }
 }
 
-/// The place command that the arguments are. None exactly if they are invalid.
-pub fn place_command(arguments: &[String]) -> Option<PlaceCommand<'_>>
-    ensures some { IfSome result
-        (λ place. IsPlaceCommand (arguments_of arguments.now) place.task.now place.budget) }
+/// What the arguments ask for. None exactly if they are invalid.
+pub fn command_of(arguments: &[String]) -> Option<Command<'_>>
+    ensures some { IfSome result (λ command. IsCommand (arguments_of arguments.now) (job_of command)) }
     ensures none { IfNone result (AreInvalid (arguments_of arguments.now)) }
 {
     if !are_plain(arguments) {

@@ -3,7 +3,8 @@
 
 mod arguments;
 mod ending;
-mod judging;
+mod files;
+mod jobs;
 mod program;
 mod reply_text;
 

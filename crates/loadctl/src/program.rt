@@ -8,19 +8,17 @@ ghost use Rattle.loadctl.specs.Arguments.{arguments_of, AreInvalid};
 ghost use Rattle.loadctl.specs.ReplyText.{usage_text};
 ghost use Rattle.loadctl.specs.Run.{outside, exit_status, IsReplyOver, IsRun, ExitsWith};
 
-use crate::arguments::place_command;
-use crate::ending::{Outcome, Stop};
-use crate::judging::{Reply, judge, too_long, usage};
+use crate::arguments::command_of;
+use crate::ending::{Halt, Outcome, Reply, Stop};
+use crate::jobs::answer_to;
+use crate::reply_text::word_line;
 use desk_base::NoMemory;
-use load_io::{Shelf, ShelfFault, Sink, write_all};
+use load_io::{Shelf, Sink, write_all};
 use std::alloc::Global;
 use std::env::Args;
 use std::io::{self, ErrorKind};
 
-/// The greatest length of a task's file, in bytes.
-const LONGEST_TASK: usize = 1_048_576;
-
-/// The reply to the arguments. The shelf is read at most once.
+/// The reply to the arguments. Its files are read at most once each, in the order of the arguments.
 fn reply_to<F: Shelf>(alloc: Global, arguments: &[String], shelf: &mut F) -> Result<Reply, Stop>
     ensures replied { IfOk result (λ reply. IsReplyOver (arguments_of arguments.now)
         (F.files shelf.old) reply.outcome reply.text.items) }
@@ -34,14 +32,20 @@ fn reply_to<F: Shelf>(alloc: Global, arguments: &[String], shelf: &mut F) -> Res
     ensures uncounted { result ≢ Err Stop.ReadFault → F.faults shelf.new ≡ F.faults shelf.old }
     ensures same { F.files shelf.new ≡ F.files shelf.old }
 {
-    let Some(place) = place_command(arguments) else {
-        return Ok(usage(alloc)?);
+    let Some(command) = command_of(arguments) else {
+        return Ok(Reply {
+            outcome: Outcome::Usage,
+            text: word_line(alloc, b"USAGE")?,
+        });
     };
-    match shelf.read(alloc, place.task, LONGEST_TASK) {
-        Ok(bytes) => Ok(judge(alloc, bytes.as_slice(), place.budget)?),
-        Err(ShelfFault::TooLong) => Ok(too_long(alloc)?),
-        Err(ShelfFault::Failed) => Err(Stop::ReadFault),
-        Err(ShelfFault::NoMemory) => Err(Stop::NoMemory),
+    match answer_to(alloc, command, shelf) {
+        Ok(reply) => Ok(reply),
+        Err(Halt::BadInput(text)) => Ok(Reply {
+            outcome: Outcome::BadInput,
+            text,
+        }),
+        Err(Halt::ReadFault) => Err(Stop::ReadFault),
+        Err(Halt::NoMemory) => Err(Stop::NoMemory),
     }
 }
 
@@ -68,11 +72,12 @@ fn exit_status(ending: Result<Outcome, Stop>) -> u8
     ensures { result ≡ exit_status ending }
 {
     match ending {
-        Ok(Outcome::Plan) => 0,
+        Ok(Outcome::Done) => 0,
         Ok(Outcome::Usage) => 2,
         Ok(Outcome::BadInput) => 3,
         Ok(Outcome::NothingFits) => 4,
         Ok(Outcome::OverBudget) => 5,
+        Ok(Outcome::Rejected) => 10,
         Err(Stop::ReadFault) => 6,
         Err(Stop::WriteFault) => 7,
         Err(Stop::NoMemory) => 9,

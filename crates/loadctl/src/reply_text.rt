@@ -1,14 +1,17 @@
-//! The texts that the program prints, line by line.
+//! The texts that the program prints beside the answers of the search.
 
-ghost use Rattle.std.specs.Prelude.{◌≡◌, ◌++◌, ◌∷◌, [], ◌<◌, ◌≤◌, ◌^◌, pos, unsigned_abs, length, take, codes, OnOk, IfOk};
-ghost use Rattle.mass_units.specs.Spelling.{signed_text, index_text};
-ghost use Rattle.hold_limits.specs.Placement.{IsSound, placed};
+ghost use Rattle.std.specs.Prelude.{◌≡◌, ◌++◌, ◌∷◌, [], IfOk, OnOk};
+ghost use Rattle.plan_text.specs.PlanText.{one_line};
+ghost use Rattle.loadctl.specs.ReplyText.{hold_fault_number, task_fault_number, input_text, number_line, good_text, rejected_cut_text, rejected_text, IsFaultLine, IsCertificateFaultLine};
 ghost use Rattle.text_lines.specs.Lines.{text_of};
-ghost use Rattle.loadctl.specs.ReplyText.{one_line, place_lines, difference_lines, plan_text, budget_text, input_text};
+ghost use Rattle.certificate.specs.CertificateText.{path_line};
 
+use cert_checker::Reject;
+use certificate::{CertFault, Claim, push_path};
 use desk_base::NoMemory;
-use hold_limits::{Path, Task, lateral_of, outcome};
-use mass_units::{Ticks, write_number, write_signed, write_ticks5};
+use hold_limits::{HoldFault, Path, Task, TaskFault};
+use mass_units::write_number;
+use problem_text::TextFault;
 use std::alloc::Global;
 
 /// A line of one word.
@@ -33,139 +36,132 @@ pub fn two_word_line(alloc: Global, first: &[u8], second: &[u8]) -> Result<Vec<u
     Ok(text)
 }
 
-/// `BUDGET n`.
-pub fn budget_line(alloc: Global, budget: u32) -> Result<Vec<u8>, NoMemory>
-    ensures { IfOk result (λ text. text.items ≡ budget_text budget) }
+/// Appends the line of a word and a number.
+pub fn push_number_line(
+    alloc: Global,
+    text: &mut Vec<u8>,
+    word: &[u8],
+    number: u64,
+) -> Result<(), NoMemory>
+    ensures { OnOk result (text.new.items ≡ text.old.items ++ text_of (number_line word.now number ∷ [])) }
 {
-    let mut text = Vec::new(alloc);
-    text.extend_from_slice(b"BUDGET ")?;
-    write_number(alloc, u64::from(budget), &mut text)?;
+    text.extend_from_slice(word)?;
+    text.push(b' ')?;
+    write_number(alloc, number, text)?;
     text.push(b'\n')?;
-    Ok(text)
+    Ok(())
 }
 
 /// `INPUT KIND n`.
-pub fn input_line(alloc: Global, kind: &[u8], number: u64) -> Result<Vec<u8>, NoMemory>
+fn input_line(alloc: Global, kind: &[u8], number: u64) -> Result<Vec<u8>, NoMemory>
     ensures { IfOk result (λ text. text.items ≡ input_text kind.now number) }
 {
     let mut text = Vec::new(alloc);
     text.extend_from_slice(b"INPUT ")?;
-    text.extend_from_slice(kind)?;
+    push_number_line(alloc, &mut text, kind, number)?;
+    Ok(text)
+}
+
+fn number_of_hold_fault(fault: HoldFault) -> u64
+    ensures { result ≡ hold_fault_number fault }
+{
+    match fault {
+        HoldFault::Positions(_) => 1,
+        HoldFault::SameName(_) => 2,
+        HoldFault::Influence(_) => 3,
+        HoldFault::Fits(_) => 4,
+        HoldFault::FitMass(_) => 5,
+        HoldFault::TooMany => 6,
+        HoldFault::Exclude(_) => 7,
+        HoldFault::Combined(_) => 8,
+        HoldFault::Cumulative(_) => 9,
+        HoldFault::Side(_) => 10,
+    }
+}
+
+fn number_of_task_fault(fault: TaskFault) -> u64
+    ensures { result ≡ task_fault_number fault }
+{
+    match fault {
+        TaskFault::TooManyItems => 1,
+        TaskFault::DuplicateId(_) => 2,
+        TaskFault::ItemTooHeavy(_) => 3,
+        TaskFault::LooseNotBulk(_) => 4,
+        TaskFault::LooseTwice(_) => 5,
+        TaskFault::LooseTooHeavy(_) => 6,
+        TaskFault::Range(_) => 7,
+    }
+}
+
+/// The line that reports a fault of a task's text.
+pub fn line_of_fault(alloc: Global, fault: TextFault) -> Result<Vec<u8>, NoMemory>
+    ensures { IfOk result (λ text. IsFaultLine fault text.items) }
+{
+    match fault {
+        TextFault::Line(number) => input_line(alloc, b"LINE", number as u64),
+        TextFault::NoEnd => two_word_line(alloc, b"INPUT", b"END"),
+        TextFault::Hold(fault) => input_line(alloc, b"HOLD", number_of_hold_fault(fault)),
+        TextFault::Task(fault) => input_line(alloc, b"TASK", number_of_task_fault(fault)),
+        TextFault::NoMemory => Err(NoMemory),
+    }
+}
+
+/// The line that reports a fault of a certificate's text.
+pub fn line_of_certificate_fault(alloc: Global, fault: CertFault) -> Result<Vec<u8>, NoMemory>
+    ensures { IfOk result (λ text. IsCertificateFaultLine fault text.items) }
+{
+    match fault {
+        CertFault::NoStart => two_word_line(alloc, b"INPUT", b"START"),
+        CertFault::Line(number) => input_line(alloc, b"LINE", number as u64),
+        CertFault::NoEnd => two_word_line(alloc, b"INPUT", b"END"),
+        CertFault::NoMemory => Err(NoMemory),
+    }
+}
+
+/// `GOOD BEST` or `GOOD NONE`.
+pub fn good_line(alloc: Global, claim: &Claim) -> Result<Vec<u8>, NoMemory>
+    ensures { IfOk result (λ text. text.items ≡ good_text claim.now) }
+{
+    match claim {
+        Claim::Best(_) => two_word_line(alloc, b"GOOD", b"BEST"),
+        Claim::NoneFits => two_word_line(alloc, b"GOOD", b"NONE"),
+    }
+}
+
+/// `REJECTED k AT`.
+fn rejected_cut(alloc: Global, reason: u64, at: usize) -> Result<Vec<u8>, NoMemory>
+    ensures { IfOk result (λ text. text.items ≡ rejected_cut_text reason at) }
+{
+    let mut text = Vec::new(alloc);
+    text.extend_from_slice(b"REJECTED ")?;
+    write_number(alloc, reason, &mut text)?;
     text.push(b' ')?;
-    write_number(alloc, number, &mut text)?;
+    write_number(alloc, at as u64, &mut text)?;
     text.push(b'\n')?;
     Ok(text)
 }
 
-/// Appends `WORD INDEX`.
-fn push_index_line(
-    alloc: Global,
-    text: &mut Vec<u8>,
-    word: &[u8],
-    index: Ticks,
-) -> Result<(), NoMemory>
-    ensures { OnOk result (text.new.items
-        ≡ text.old.items ++ one_line (word.now ∷ index_text index.0 ∷ [])) }
+/// A word, and the names of a path's positions.
+fn named_path(alloc: Global, task: &Task, word: &[u8], path: &Path) -> Result<Vec<u8>, NoMemory>
+    ensures { IfOk result (λ text. text.items
+        ≡ text_of (path_line word.now task.now.hold.positions path.now.items ∷ [])) }
 {
-    text.extend_from_slice(word)?;
-    text.push(b' ')?;
-    write_ticks5(alloc, index, text)?;
-    text.push(b'\n')?;
-    Ok(())
-}
-
-/// Appends `place ID NAME`.
-fn push_place_line(text: &mut Vec<u8>, id: &[u8], name: &[u8]) -> Result<(), NoMemory>
-    ensures { OnOk result (text.new.items
-        ≡ text.old.items ++ one_line (codes "place" ∷ id.now ∷ name.now ∷ [])) }
-{
-    text.extend_from_slice(b"place ")?;
-    text.extend_from_slice(id)?;
-    text.push(b' ')?;
-    text.extend_from_slice(name)?;
-    text.push(b'\n')?;
-    Ok(())
-}
-
-/// Appends a line for each container of the path, in branch order.
-fn push_place_lines(text: &mut Vec<u8>, task: &Task, path: &[u8]) -> Result<(), NoMemory>
-    requires { length path.now ≤ length task.now.items }
-    ensures { OnOk result (text.new.items
-        ≡ text.old.items ++ text_of (place_lines task.now (placed task.now path.now))) }
-{
-    for rank in 0..path.len() {
-        let item = task.at_rank(rank);
-        push_place_line(text, item.id.bytes(), task.hold().name_at(path[rank]))?;
-    }
-    Ok(())
-}
-
-/// A distance as a number of ticks.
-fn ticks_of(distance: u64) -> Ticks
-    requires { distance < 2 ^ 63 }
-    ensures { result.0 ≡ pos distance }
-{
-    Ticks(distance as i64)
-}
-
-/// Appends `WORD KILOGRAMS`.
-fn push_mass_line(
-    alloc: Global,
-    text: &mut Vec<u8>,
-    word: &[u8],
-    kilograms: i32,
-) -> Result<(), NoMemory>
-    ensures { OnOk result (text.new.items
-        ≡ text.old.items ++ one_line (word.now ∷ signed_text kilograms ∷ [])) }
-{
-    text.extend_from_slice(word)?;
-    text.push(b' ')?;
-    write_signed(alloc, kilograms, text)?;
-    text.push(b'\n')?;
-    Ok(())
-}
-
-/// A lateral difference, in kilograms, as a number of 32 bits.
-fn kilograms_of(difference: i64) -> i32
-    requires { unsigned_abs difference < 2 ^ 31 }
-    ensures { result ≡ difference }
-{
-    difference as i32
-}
-
-/// Appends `lateral DIFFERENCE`, where the hold has a lateral limit.
-fn push_difference(
-    alloc: Global,
-    text: &mut Vec<u8>,
-    task: &Task,
-    path: &Path,
-) -> Result<(), NoMemory>
-    requires { IsSound task.now path.now.items }
-    ensures { OnOk result (text.new.items
-        ≡ text.old.items ++ text_of (difference_lines task.now path.now.items)) }
-{
-    if task.hold().lateral().is_some() {
-        push_mass_line(
-            alloc,
-            text,
-            b"lateral",
-            kilograms_of(lateral_of(task, path)),
-        )?;
-    }
-    Ok(())
-}
-
-/// The plan of a sound path: a line for each container in branch order, the take-off index, its distance from the
-/// ideal index, and the lateral difference where the hold limits it.
-pub fn plan_of(alloc: Global, task: &Task, path: &Path) -> Result<Vec<u8>, NoMemory>
-    requires { IsSound task.now path.now.items }
-    ensures { IfOk result (λ text. text.items ≡ plan_text task.now path.now.items) }
-{
-    let (take_off, distance) = outcome(task, path);
-    let mut text = word_line(alloc, b"PLAN")?;
-    push_place_lines(&mut text, task, path.as_slice())?;
-    push_index_line(alloc, &mut text, b"index", take_off)?;
-    push_index_line(alloc, &mut text, b"distance", ticks_of(distance))?;
-    push_difference(alloc, &mut text, task, path)?;
+    let mut text = Vec::new(alloc);
+    push_path(&mut text, task.hold(), word, path)?;
     Ok(text)
+}
+
+/// `REJECTED`, with the number of the reason, and with its place or the names of its path's positions.
+pub fn rejected_line(alloc: Global, task: &Task, reason: &Reject) -> Result<Vec<u8>, NoMemory>
+    ensures { IfOk result (λ text. text.items ≡ rejected_text task.now reason.now) }
+{
+    match reason {
+        Reject::NotAPlacement => word_line(alloc, b"REJECTED 1"),
+        Reject::CutOrder(at) => rejected_cut(alloc, 2, *at),
+        Reject::CutNotViable(at) => rejected_cut(alloc, 3, *at),
+        Reject::CutWeak(at) => rejected_cut(alloc, 4, *at),
+        Reject::Nearer(path) => named_path(alloc, task, b"REJECTED 5", path),
+        Reject::Exists(path) => named_path(alloc, task, b"REJECTED 6", path),
+        Reject::MoreExpanded => word_line(alloc, b"REJECTED 7"),
+    }
 }

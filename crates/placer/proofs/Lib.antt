@@ -1,1 +1,6 @@
+pub mod AnswerLemmas
+pub mod CountLemmas
+pub mod GoodLemmas
+pub mod NearLemmas
+pub mod QueueLemmas
 pub mod SearchLemmas

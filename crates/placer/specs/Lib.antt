@@ -1,2 +1,5 @@
+pub mod Answers
+pub mod Keys
+pub mod Near
 pub mod Search
-pub mod Steps
+pub mod AnswerText

@@ -1,12 +1,101 @@
-use hold_limits::Path;
+//! The best placement of a task, with its evidence.
 
-/// What a search for the best path ends with.
+ghost use Rattle.std.specs.Prelude.{◌≡◌, IfOk, IsSomeAnd};
+ghost use Rattle.hold_limits.specs.Placement.{IsBest};
+ghost use Rattle.certificate.specs.Evidence.{claimed};
+ghost use Rattle.certificate.specs.Good.{AreAtMost};
+ghost use Rattle.cert_checker.specs.Claims.{HasNoPlacement, IsGoodFor};
+ghost use Rattle.placer.specs.Answers.{IfBest, IfBudget, IfCertified, IfNoneFits};
+ghost use Rattle.placer.specs.Near.{AreMoreThan, IsNear, IsNearCertificate};
+
+use crate::best_first::near_certificate;
+use cert_checker::{NoPlan, Proven};
+use certificate::{Certificate, Claim};
+use desk_base::NoMemory;
+use hold_limits::Task;
+use std::alloc::Global;
+
+/// What the search for the best path of a task ends with.
 #[derive(Debug, Drop)]
 pub enum Answer {
-    /// The best path.
-    Best(Path),
-    /// No path is admissible.
-    NoneFits,
-    /// The search would look at more viable prefixes than the budget, which this is.
+    /// The best path, with its evidence.
+    Best(Proven),
+    /// No path is admissible, with the evidence for it.
+    NoneFits(NoPlan),
+    /// More prefixes are near than the budget, which this is.
     Budget(u32),
 }
+
+/// Who places the containers of tasks.
+pub trait Placing {
+    /// The best path of the task with its near certificate, or that of a task without admissible paths. Where more
+    /// prefixes are near than the budget, the answer is the budget. So the answer is a function of the task and the
+    /// budget, unless memory runs out.
+    fn place(&self, alloc: Global, task: &Task, budget: u32) -> Result<Answer, NoMemory>
+        ensures best { IfOk result (λ answer. IfBest answer (λ proven. proven.task ≡ task.now)) }
+        ensures path { IfOk result (λ answer. IfBest answer (λ proven.
+            IsSomeAnd (claimed proven.certificate.claim) (IsBest task.now))) }
+        ensures none { IfOk result (λ answer. IfNoneFits answer (λ no_plan. no_plan.task ≡ task.now)) }
+        ensures nothing { IfOk result (λ answer. IfNoneFits answer (λ _. HasNoPlacement task.now)) }
+        ensures near { IfOk result (λ answer. IfCertified answer (λ certified.
+            IsNearCertificate task.now certified.certificate)) }
+        ensures enough { IfOk result (λ answer. IfCertified answer (λ _.
+            AreAtMost (IsNear task.now) budget)) }
+        ensures budget { IfOk result (λ answer. IfBudget answer (λ n. n ≡ budget)) }
+        ensures over { IfOk result (λ answer. IfBudget answer (λ n.
+            AreMoreThan (IsNear task.now) n)) };
+}
+
+fn answer_of(task: Task, certificate: Certificate) -> Answer
+    requires near { IsNearCertificate task certificate }
+    requires good { IsGoodFor task certificate }
+    ensures best { IfBest result (λ proven. proven.task ≡ task) }
+    ensures path { IfBest result (λ proven.
+        IsSomeAnd (claimed proven.certificate.claim) (IsBest task)) }
+    ensures none { IfNoneFits result (λ no_plan. no_plan.task ≡ task) }
+    ensures nothing { IfNoneFits result (λ _. HasNoPlacement task) }
+    ensures near { IfCertified result (λ certified.
+        IsNearCertificate task certified.certificate) }
+    ensures spent { IfBudget result (λ _. ⊥) }
+{
+    if matches!(certificate.claim, Claim::Best(_)) {
+        Answer::Best(Proven::of_good(task, certificate))
+    } else {
+        Answer::NoneFits(NoPlan::of_good(task, certificate))
+    }
+}
+
+/// The best path of the task with its near certificate, or that of a task without admissible paths. Where more
+/// prefixes are near than the budget, the answer is the budget.
+pub fn place(alloc: Global, task: &Task, budget: u32) -> Result<Answer, NoMemory>
+    ensures best { IfOk result (λ answer. IfBest answer (λ proven. proven.task ≡ task.now)) }
+    ensures path { IfOk result (λ answer. IfBest answer (λ proven.
+        IsSomeAnd (claimed proven.certificate.claim) (IsBest task.now))) }
+    ensures none { IfOk result (λ answer. IfNoneFits answer (λ no_plan. no_plan.task ≡ task.now)) }
+    ensures nothing { IfOk result (λ answer. IfNoneFits answer (λ _. HasNoPlacement task.now)) }
+    ensures near { IfOk result (λ answer. IfCertified answer (λ certified.
+        IsNearCertificate task.now certified.certificate)) }
+    ensures enough { IfOk result (λ answer. IfCertified answer (λ _.
+        AreAtMost (IsNear task.now) budget)) }
+    ensures budget { IfOk result (λ answer. IfBudget answer (λ n. n ≡ budget)) }
+    ensures over { IfOk result (λ answer. IfBudget answer (λ n.
+        AreMoreThan (IsNear task.now) n)) }
+{
+    match near_certificate(alloc, task, budget)? {
+        Some(certificate) => Ok(answer_of(task.copy(alloc)?, certificate)),
+        None => Ok(Answer::Budget(budget)),
+    }
+}
+
+/// The search itself.
+#[derive(Clone, Copy, Debug)]
+pub struct Direct;
+
+impl Placing for Direct {
+    fn place(&self, alloc: Global, task: &Task, budget: u32) -> Result<Answer, NoMemory> {
+        place(alloc, task, budget)
+    }
+}
+
+#[cfg(test)]
+mod tests;

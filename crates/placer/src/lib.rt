@@ -2,8 +2,9 @@
 #![tactic(auto)]
 
 mod answer;
-mod depth_first;
-mod progress;
+mod answer_text;
+mod best_first;
+mod queue;
 
-pub use answer::Answer;
-pub use depth_first::search;
+pub use answer::{Answer, Direct, Placing, place};
+pub use answer_text::write_answer;

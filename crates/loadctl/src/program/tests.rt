@@ -96,6 +96,12 @@ place AKE10002XX 42
 index 50.80000
 distance 0.80000
 lateral -200
+CERTIFICATE 1
+best 12 42
+cut 11
+cut 42
+expanded 3
+END
 ";
 
 const PLAN: &str = "PLAN
@@ -103,17 +109,53 @@ place AKE10001XX 12
 place AKE10002XX 41
 index 49.20000
 distance 0.80000
+CERTIFICATE 1
+best 12 41
+cut 11
+cut 42
+expanded 3
+END
+";
+
+const TOO_FEW: &str = "CERTIFICATE 1
+best 12 41
+cut 11
+cut 42
+expanded 2
+END
+";
+
+const NONE: &str = "NONE
+CERTIFICATE 1
+none
+expanded 1
+END
+";
+
+const NARROW_NONE: &str = "NONE
+CERTIFICATE 1
+none
+expanded 3
+END
 ";
 
 const EMPTY_PLAN: &str = "PLAN
 index 50.00000
 distance 0.00000
+CERTIFICATE 1
+best
+expanded 0
+END
 ";
 
 const COMBINED_PLAN: &str = "PLAN
 place AKE10001XX 11
 index 46.40000
 distance 0.00000
+CERTIFICATE 1
+best 11
+expanded 1
+END
 ";
 
 // The arguments, the parts of the file `t`, and the exit status and text of the run.
@@ -126,6 +168,19 @@ fn args_from(alloc: Global, texts: &[&str]) -> Result<Args, Fail> {
         args.push(String::from_str(alloc, text)?)?;
     }
     Ok(args.into_iter())
+}
+
+// A shelf with the worked task in the file `t` and this text in the file `c`.
+fn shelf_with_certificate(alloc: Global, text: &str) -> Result<MemoryShelf, Fail> {
+    let mut task = String::new(alloc);
+    for part in [POSITIONS, ITEMS, INDICES] {
+        task.push_str(part)?;
+    }
+    let mut files = Vec::new(alloc);
+    files.push((String::from_str(alloc, "t")?, task.into_bytes()))?;
+    let certificate = String::from_str(alloc, text)?;
+    files.push((String::from_str(alloc, "c")?, certificate.into_bytes()))?;
+    Ok(MemoryShelf::new(files, Vec::new(alloc)))
 }
 
 // A shelf with one file `t`, where the reads with the listed numbers fail.
@@ -168,22 +223,22 @@ fn worked_tasks_are_answered(rt: HostRuntime) -> Result<(), Fail> {
     let worked: &[&str] = &[POSITIONS, ITEMS, INDICES];
     let rows: [Row<'_>; 11] = [
         (place, worked, 0, PLAN),
-        (&["place", "t", "8"], worked, 0, PLAN),
+        (&["place", "t", "4"], worked, 0, PLAN),
         (
-            &["place", "t", "8"],
+            &["place", "t", "4"],
             &[POSITIONS, OTHER_ITEMS, INDICES],
             0,
             PLAN,
         ),
-        (&["place", "t", "7"], worked, 5, "BUDGET 7\n"),
+        (&["place", "t", "3"], worked, 5, "BUDGET 3\n"),
         (&["place", "t", "1"], worked, 5, "BUDGET 1\n"),
-        (&["place", "t", "8"], &[POSITIONS, INDICES], 0, EMPTY_PLAN),
-        (place, &[POSITIONS, ITEMS, NARROW], 4, "NONE\n"),
+        (&["place", "t", "1"], &[POSITIONS, INDICES], 0, EMPTY_PLAN),
+        (place, &[POSITIONS, ITEMS, NARROW], 4, NARROW_NONE),
         (
             &["place", "t", "50000"],
             &[POSITIONS, ITEMS, NARROW],
             4,
-            "NONE\n",
+            NARROW_NONE,
         ),
         // A combined limit that is met exactly, and one kilogram more.
         (
@@ -196,10 +251,10 @@ fn worked_tasks_are_answered(rt: HostRuntime) -> Result<(), Fail> {
             place,
             &[COMBINED, "loose 51 301\n", COMBINED_INDICES],
             4,
-            "NONE\n",
+            NONE,
         ),
         // Two positions that exclude each other.
-        (place, &[FORWARD, ITEMS, INDICES], 4, "NONE\n"),
+        (place, &[FORWARD, ITEMS, INDICES], 4, NONE),
     ];
     check_rows(&rt, rt.alloc(), &rows)
 }
@@ -225,7 +280,7 @@ fn a_lateral_limit_is_kept(rt: HostRuntime) -> Result<(), Fail> {
             place,
             &[SIDED, SIDES, "lateral 199\n", ITEMS, INDICES],
             4,
-            "NONE\n",
+            NONE,
         ),
         (
             place,
@@ -235,6 +290,25 @@ fn a_lateral_limit_is_kept(rt: HostRuntime) -> Result<(), Fail> {
         ),
     ];
     check_rows(&rt, rt.alloc(), &rows)
+}
+
+#[test]
+fn certificates_are_judged(rt: HostRuntime) -> Result<(), Fail> {
+    let rows: [(&str, u8, &str); 4] = [
+        (PLAN, 0, "GOOD BEST\n"),
+        (TOO_FEW, 10, "REJECTED 7\n"),
+        (NARROW_NONE, 10, "REJECTED 6 11 12\n"),
+        (ITEMS, 3, "INPUT START\n"),
+    ];
+    let alloc = rt.alloc();
+    for (text, status, printed) in rows {
+        let mut shelf = shelf_with_certificate(alloc, text)?;
+        let mut out = MemorySink::new(alloc, 100, Vec::new(alloc))?;
+        let args = args_from(alloc, &["check", "t", "c"])?;
+        assert_eq!(rt; execute(alloc, Ok(args), &mut shelf, &mut out), status);
+        assert_eq!(rt; out.written(), printed.as_bytes());
+    }
+    Ok(())
 }
 
 #[test]
@@ -273,7 +347,7 @@ fn invalid_arguments_are_refused(rt: HostRuntime) -> Result<(), Fail> {
         (&["place", "t", "50001"], worked, 2, "USAGE\n"),
         (&["place", "t", "017"], worked, 2, "USAGE\n"),
         (&["place", "-x"], worked, 2, "USAGE\n"),
-        (&["plan", "t"], worked, 2, "USAGE\n"),
+        (&["check", "t"], worked, 2, "USAGE\n"),
         (&["place", "t", "17 "], worked, 2, "USAGE\n"),
     ];
     check_rows(&rt, rt.alloc(), &rows)
@@ -317,7 +391,7 @@ fn a_file_that_is_too_long_is_refused(rt: HostRuntime) -> Result<(), Fail> {
     let mut files = Vec::new(alloc);
     files.push((
         String::from_str(alloc, "t")?,
-        vec![in alloc; b'x'; LONGEST_TASK + 1]?,
+        vec![in alloc; b'x'; crate::files::LONGEST_TASK + 1]?,
     ))?;
     let mut shelf = MemoryShelf::new(files, Vec::new(alloc));
     let mut out = MemorySink::new(alloc, 100, Vec::new(alloc))?;

@@ -1,0 +1,62 @@
+-- The answers to commands, over files that may be hidden.
+use Rattle.std.proofs.Common.{◌≡◌, ℕ, List, Option, Some, None, subst}
+use Rattle.std.specs.Prelude.{IfSome}
+use Rattle.load_io.specs.Shelf.{Files}
+use Rattle.hold_limits.specs.Problem.{Problem}
+use Rattle.certificate.specs.declared.parts.Certificate.{Certificate}
+use Rattle.loadctl.specs.declared.ending.Outcome.{Outcome}
+use Rattle.loadctl.specs.declared.ending.Halt.{Halt}
+use Rattle.loadctl.specs.declared.ending.Halt.TheVariants.{BadInput, ReadFault, NoMemory}
+use Rattle.loadctl.specs.Halts.{IfBadInput}
+use Rattle.loadctl.specs.Arguments.Job.{place, check, generate}
+use Rattle.loadctl.specs.Reply.{IsTaskFile, IsRefusedTask, IsCertificateFile, IsRefusedCertificate, IsPlacing, IsJudgement, IsSummary, IsAnswer, IsBadInput}
+use Rattle.loadctl.specs.Reply.IsAnswer.{placed, judged, summed}
+use Rattle.loadctl.specs.Reply.IsBadInput.{bad_task, bad_checked_task, bad_certificate}
+
+over : (exposed : Option Files) (P Q : Files → Type 0) → IfSome exposed P → ((files : Files) → P files → Q files) → IfSome exposed Q
+over None P Q holds then = tt
+over (Some files) P Q holds then = then files holds
+
+over_both : (exposed : Option Files) (P Q R : Files → Type 0) → IfSome exposed P → IfSome exposed Q → ((files : Files) → P files → Q files → R files) → IfSome exposed R
+over_both None P Q R one other then = tt
+over_both (Some files) P Q R one other then = then files one other
+
+pub placed-answer : (exposed : Option Files) (task : List ℕ) (budget : ℕ) (t : Problem) (outcome : Outcome) (text : List ℕ) → IfSome exposed (λ files. IsTaskFile files task t)
+    → IsPlacing t budget outcome text → IfSome exposed (λ files. IsAnswer files (place task budget) outcome text)
+placed-answer exposed task budget t outcome text file is =
+    over exposed (λ files. IsTaskFile files task t) (λ files. IsAnswer files (place task budget) outcome text) file (λ files there. placed task budget t outcome text there is)
+
+pub judged-answer : (exposed : Option Files) (task certificate : List ℕ) (t : Problem) (c : Certificate) (outcome : Outcome) (text : List ℕ)
+    → IfSome exposed (λ files. IsTaskFile files task t) → IfSome exposed (λ files. IsCertificateFile files certificate t c)
+    → IsJudgement t c outcome text → IfSome exposed (λ files. IsAnswer files (check task certificate) outcome text)
+judged-answer exposed task certificate t c outcome text file evidence is =
+    over_both exposed (λ files. IsTaskFile files task t) (λ files. IsCertificateFile files certificate t c) (λ files. IsAnswer files (check task certificate) outcome text) file evidence
+    (λ files there whole. judged task certificate t c outcome text there whole is)
+
+pub summed-answer : (exposed : Option Files) (number : ℕ) (outcome : Outcome) (text : List ℕ) → IsSummary number outcome text
+    → IfSome exposed (λ files. IsAnswer files (generate number) outcome text)
+summed-answer None number outcome text is = tt
+summed-answer (Some files) number outcome text is = summed number outcome text is
+
+pub bad-task : (halt : Halt) (exposed : Option Files) (task : List ℕ) (budget : ℕ) → IfBadInput halt (λ line. IfSome exposed (λ files. IsRefusedTask files task line))
+    → IfBadInput halt (λ line. IfSome exposed (λ files. IsBadInput files (place task budget) line))
+bad-task (BadInput line) exposed task budget wrong =
+    over exposed (λ files. IsRefusedTask files task line.items) (λ files. IsBadInput files (place task budget) line.items) wrong (λ files is. bad_task task budget line.items is)
+bad-task ReadFault exposed task budget wrong = tt
+bad-task NoMemory exposed task budget wrong = tt
+
+pub bad-checked_task : (halt : Halt) (exposed : Option Files) (task certificate : List ℕ) → IfBadInput halt (λ line. IfSome exposed (λ files. IsRefusedTask files task line))
+    → IfBadInput halt (λ line. IfSome exposed (λ files. IsBadInput files (check task certificate) line))
+bad-checked_task (BadInput line) exposed task certificate wrong =
+    over exposed (λ files. IsRefusedTask files task line.items) (λ files. IsBadInput files (check task certificate) line.items) wrong (λ files is. bad_checked_task task certificate line.items is)
+bad-checked_task ReadFault exposed task certificate wrong = tt
+bad-checked_task NoMemory exposed task certificate wrong = tt
+
+pub bad-certificate : (halt : Halt) (exposed : Option Files) (task certificate : List ℕ) (t : Problem) → IfSome exposed (λ files. IsTaskFile files task t)
+    → IfBadInput halt (λ line. IfSome exposed (λ files. IsRefusedCertificate files certificate t line))
+    → IfBadInput halt (λ line. IfSome exposed (λ files. IsBadInput files (check task certificate) line))
+bad-certificate (BadInput line) exposed task certificate t file wrong =
+    over_both exposed (λ files. IsTaskFile files task t) (λ files. IsRefusedCertificate files certificate t line.items) (λ files. IsBadInput files (check task certificate) line.items) file wrong
+    (λ files there is. bad_certificate task certificate t line.items there is)
+bad-certificate ReadFault exposed task certificate t file wrong = tt
+bad-certificate NoMemory exposed task certificate t file wrong = tt

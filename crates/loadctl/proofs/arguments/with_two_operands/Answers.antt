@@ -1,0 +1,14 @@
+use Rattle.std.proofs.Common.{◌∷◌, [], ap, ap₂, sym}
+use Rattle.std.specs.Prelude.{codes}
+use Rattle.loadctl.proofs.ArgumentLemmas.{same_bytes}
+use Rattle.loadctl.specs.Arguments.AskFor.{place_within, check_certificate}
+use Rattle.loadctl.proofs.arguments.with_two_operands.Goals as goal
+
+pub returns-then-eq-clause-some : goal.returns-then-eq-clause-some
+returns-then-eq-clause-some c =
+    let budget = c.in_ok-budget.ensures.some in
+    place_within c.args.task.now c.in_ok-budget.budget (ap₂ (λ name other. name ∷ c.args.task.now ∷ other ∷ []) (same_bytes c.args.name.now (codes "place") (sym c.if-eq.ensures)) budget.0) budget.1 budget.2
+
+pub returns-then-eq-2-clause-some : goal.returns-then-eq-2-clause-some
+returns-then-eq-2-clause-some c =
+    check_certificate c.args.task.now c.args.other.now (ap (λ name. name ∷ c.args.task.now ∷ c.args.other.now ∷ []) (same_bytes c.args.name.now (codes "check") (sym c.if-eq-2.ensures)))

@@ -1,8 +1,0 @@
-use Rattle.std.proofs.Common.{◌≡◌, ◌++◌, take}
-use Rattle.hold_limits.specs.Placement.{placed}
-use Rattle.text_lines.specs.Lines.{text_of}
-use Rattle.loadctl.specs.ReplyText.{place_lines}
-use Rattle.loadctl.proofs.reply_text.push_place_lines.Given as goal
-
-abbrev pub invariant-loop-rank : goal.invariant-loop-rank
-invariant-loop-rank l = l.text.items ≡ l.fn.text.items ++ text_of (place_lines l.task (take l.rank (placed l.task l.path)))

@@ -1,0 +1,11 @@
+-- The commands as the program keeps them.
+use Rattle.loadctl.specs.declared.arguments.Command.{Command}
+use Rattle.loadctl.specs.declared.arguments.Command.TheVariants as command
+use Rattle.loadctl.specs.Arguments.{Job}
+use Rattle.loadctl.specs.Arguments.Job.{place, check, generate}
+
+-- the job that a command is for
+abbrev pub job_of : Command → Job
+job_of (command.Place task budget) = place task.now budget
+job_of (command.Check task certificate) = check task.now certificate.now
+job_of (command.Generate number) = generate number

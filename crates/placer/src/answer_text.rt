@@ -1,0 +1,58 @@
+//! The text of an answer.
+
+ghost use Rattle.std.specs.Prelude.{◌≡◌, ◌++◌, OnOk, IfOk};
+ghost use Rattle.cert_checker.specs.Claims.{IsGoodFor};
+ghost use Rattle.placer.specs.Answers.{IfBest, IfNoneFits};
+ghost use Rattle.placer.specs.AnswerText.{answer_text, budget_text};
+
+use crate::answer::Answer;
+use cert_checker::{NoPlan, Proven};
+use certificate::push_certificate;
+use desk_base::NoMemory;
+use hold_limits::Task;
+use mass_units::write_number;
+use plan_text::push_plan;
+use std::alloc::Global;
+
+fn plan_of(alloc: Global, task: &Task, proven: &Proven) -> Result<Vec<u8>, NoMemory>
+    requires { proven.now.task ≡ task.now }
+    ensures { IfOk result (λ text. text.items ≡ answer_text task.now (Answer.Best proven.now)) }
+{
+    let mut text = Vec::new(alloc);
+    push_plan(alloc, &mut text, task, proven.path())?;
+    push_certificate(alloc, &mut text, task, proven.certificate())?;
+    Ok(text)
+}
+
+fn none_of(alloc: Global, task: &Task, no_plan: &NoPlan) -> Result<Vec<u8>, NoMemory>
+    requires { no_plan.now.task ≡ task.now }
+    ensures { IfOk result (λ text. text.items ≡ answer_text task.now (Answer.NoneFits no_plan.now)) }
+{
+    let mut text = Vec::new(alloc);
+    text.extend_from_slice(b"NONE\n")?;
+    push_certificate(alloc, &mut text, task, no_plan.certificate())?;
+    Ok(text)
+}
+
+fn budget_of(alloc: Global, budget: u32) -> Result<Vec<u8>, NoMemory>
+    ensures { IfOk result (λ text. text.items ≡ budget_text budget) }
+{
+    let mut text = Vec::new(alloc);
+    text.extend_from_slice(b"BUDGET ")?;
+    write_number(alloc, u64::from(budget), &mut text)?;
+    text.push(b'\n')?;
+    Ok(text)
+}
+
+/// The text of an answer to the task: the plan or `NONE`, and then the certificate; or `BUDGET` with the budget.
+pub fn write_answer(alloc: Global, task: &Task, answer: &Answer) -> Result<Vec<u8>, NoMemory>
+    requires best { IfBest answer.now (λ proven. proven.task ≡ task.now) }
+    requires none { IfNoneFits answer.now (λ no_plan. no_plan.task ≡ task.now) }
+    ensures { IfOk result (λ text. text.items ≡ answer_text task.now answer.now) }
+{
+    match answer {
+        Answer::Best(proven) => plan_of(alloc, task, proven),
+        Answer::NoneFits(no_plan) => none_of(alloc, task, no_plan),
+        Answer::Budget(budget) => budget_of(alloc, *budget),
+    }
+}
