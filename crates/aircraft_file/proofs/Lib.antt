@@ -5,3 +5,8 @@ pub mod DocumentLemmas
 pub mod RefusalLemmas
 pub mod AnswerLemmas
 pub mod MadeLemmas
+pub mod HoldLemmas
+pub mod SideLemmas
+pub mod NameLemmas
+pub mod KeyLemmas
+pub mod ValueLemmas

@@ -16,7 +16,7 @@ use Rattle.mass_units.specs.declared.Band.{Band}
 use Rattle.aircraft_file.specs.declared.parts.Envelopes.{Envelopes}
 use Rattle.aircraft_file.specs.Document.{Contents, section_at, document_of, ◌>>=◌}
 use Rattle.aircraft_file.specs.Figures.{figures_of}
-use Rattle.aircraft_file.specs.Loading.{zones_of, hold_of, fuel_of, outline_of}
+use Rattle.aircraft_file.specs.Loading.{zones_of, hold_of, fuel_of, outline_of, lateral_of, under}
 
 -- all numbers of an aircraft
 pub record Craft : Type 0 where
@@ -69,7 +69,8 @@ craft_in document = do
   hold ← hold_of document
   fuel ← fuel_of (section_at (codes "fuel") document)
   envelopes ← envelopes_of (section_at (codes "envelope") document)
-  Ok (craft_with figures zones hold fuel envelopes)
+  lateral ← lateral_of hold.positions (section_at (codes "hold") document)
+  Ok (craft_with figures zones (under lateral hold) fuel envelopes)
 
 -- the same of a text, which has to be a document
 abbrev pub craft_in_document : Contents → Result Craft FileFault

@@ -11,6 +11,7 @@ use Rattle.hold_parts.specs.declared.parts.Position.{Position}
 use Rattle.hold_parts.specs.declared.parts.Combined.{Combined}
 use Rattle.hold_parts.specs.declared.parts.Cumulative.{Cumulative}
 use Rattle.aircraft_file.specs.declared.position_form.Head.{Head}
+use Rattle.aircraft_file.specs.declared.side_keys.NamedSide.{NamedSide}
 use Rattle.aircraft_file.specs.Spellings.{spelled, is_name, is_kind, index_spelled}
 
 -- one step after the other: none where a step has none
@@ -157,6 +158,13 @@ named_position positions d = do
   name ← as_str d
   number ← number_named positions name
   Some (min number 255)
+
+-- the position that a text names, on this side
+abbrev pub named_side : Bool → List Position → Data → Option NamedSide
+named_side right positions d = do
+  name ← as_str d
+  number ← number_named positions name
+  Some (record { number = number; right = right })
 
 -- `[name, name]`: two positions of which only one may be used
 abbrev pub exclude : List Position → Data → Option (ℕ × ℕ)

@@ -5,5 +5,6 @@ pub mod Forms
 pub mod Figures
 pub mod Loading
 pub mod Craft
+pub mod Keys
 pub mod Lawful
 pub mod Parts

@@ -7,7 +7,7 @@ use Rattle.aircraft_file.specs.declared.parts.Sides.{Sides}
 use Rattle.aircraft_file.specs.declared.parts.AllSides.{AllSides}
 use Rattle.aircraft_file.specs.declared.parts.Envelopes.{Envelopes}
 use Rattle.aircraft_file.specs.declared.parts.Parts.{Parts}
-use Rattle.aircraft_file.specs.Loading.{LimitLists, layout_with}
+use Rattle.aircraft_file.specs.Loading.{LimitLists, layout_with, under}
 use Rattle.aircraft_file.specs.Craft.{Craft, craft_with}
 
 abbrev pub limits_in : Limits → LimitLists
@@ -27,4 +27,4 @@ outlines_in sides = record {
 }
 
 abbrev pub craft_in_parts : Parts → Craft
-craft_in_parts parts = craft_with parts.figures parts.zones.items (hold_in parts.hold) parts.fuel.items (outlines_in parts.sides)
+craft_in_parts parts = craft_with parts.figures parts.zones.items (under parts.lateral (hold_in parts.hold)) parts.fuel.items (outlines_in parts.sides)

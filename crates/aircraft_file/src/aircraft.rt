@@ -1,17 +1,19 @@
 //! An aircraft, and the tests that the numbers of a file make up a lawful one.
 
-ghost use Rattle.std.specs.Prelude.{◌≡◌, IfErr, IfNone, IfOk, IfSome, MatchBool};
+ghost use Rattle.std.specs.Prelude.{◌≡◌, None, Some, IfErr, IfNone, IfOk, IfSome, MatchBool};
 ghost use Rattle.envelope.specs.Outline.{IsEnvelope};
-ghost use Rattle.aircraft_file.specs.Parts.{craft_in_parts, outline_in, outlines_in};
+ghost use Rattle.hold_limits.specs.Faults.{IsWellSpelled, hold_fault};
+ghost use Rattle.aircraft_file.specs.Loading.{under};
+ghost use Rattle.aircraft_file.specs.Parts.{craft_in_parts, hold_in, outline_in, outlines_in};
 ghost use Rattle.aircraft_file.specs.Lawful.{AreEnvelopes, FallsShort, HaveSpans, IsEnvelopeRefused, IsFirstShort, IsLawfulCraft, IsRefused, IsWithinLimits, Reaches};
 
 use crate::fault::FileFault;
 use crate::figures::Figures;
-use crate::parts::{AllSides, Envelopes, Parts, Sides};
+use crate::parts::{AllSides, Envelopes, HoldParts, Limits, Parts, Sides};
 use crate::texts::{Registration, Version};
 use envelope::{EnvFault, Envelope};
 use fuel_table::FuelTable;
-use hold_limits::Hold;
+use hold_limits::{Hold, HoldFault, Lateral};
 use mass_limits::Certified;
 use mass_units::{Chord, Kg, Ticks};
 use payload::{Averages, Zone};
@@ -191,15 +193,9 @@ pub fn aircraft_of(parts: Parts) -> Result<Aircraft, FileFault>
         hold,
         fuel,
         sides,
+        lateral,
     } = parts;
-    let limits = hold.limits;
-    let hold = Hold::new(
-        hold.positions,
-        limits.excludes,
-        limits.combined,
-        limits.cumulative,
-    )
-    .map_err(FileFault::Hold)?;
+    let hold = hold_of(hold, lateral).map_err(FileFault::Hold)?;
     let envelopes = envelopes_of(sides).map_err(|(which, fault)| FileFault::Envelope(
         which, fault,
     ))?;
@@ -214,6 +210,28 @@ pub fn aircraft_of(parts: Parts) -> Result<Aircraft, FileFault>
         fuel,
         envelopes,
     })
+}
+
+/// The hold with these parts, under the lateral limit where there is one, or its first fault.
+#[tactic(auto, using(crate::proofs::HoldLemmas::hold_refused))]
+fn hold_of(parts: HoldParts, lateral: Option<Lateral>) -> Result<Hold, HoldFault>
+    requires { IsWellSpelled (under lateral (hold_in parts)) }
+    ensures made { IfOk result (λ hold. hold ≡ under lateral (hold_in parts)) }
+    ensures lawful { IfOk result (λ hold. hold_fault hold ≡ None) }
+    ensures refused { IfErr result (λ fault.
+        hold_fault (under lateral (hold_in parts)) ≡ Some fault) }
+{
+    let HoldParts { positions, limits } = parts;
+    let Limits {
+        excludes,
+        combined,
+        cumulative,
+    } = limits;
+    let hold = Hold::new(positions, excludes, combined, cumulative)?;
+    match lateral {
+        Some(lateral) => hold.with_lateral(lateral),
+        None => Ok(hold),
+    }
 }
 
 /// The envelopes with these sides, or the number of the first that is not one, with its fault.

@@ -1,106 +1,120 @@
 //! The forms of the limits on the positions of a hold. They name positions, and a name means the first
 //! position that has it.
 
-ghost use Rattle.std.specs.Prelude.{◌≡◌, IfOk, IfSome, bytes_eq};
+ghost use Rattle.std.specs.Prelude.{◌≡◌, IfOk, IfSome};
 ghost use Rattle.toml.specs.View.{view};
-ghost use Rattle.aircraft_file.specs.Forms.{combined, cumulative, exclude, named_position, number_named};
+ghost use Rattle.aircraft_file.specs.Forms.{combined, cumulative, exclude, named_position, named_side};
 ghost use Rattle.aircraft_file.specs.Lawful.{IsMass};
 
 use crate::forms::{Form, read_each};
+use crate::names::Names;
+use crate::side_keys::NamedSide;
 use crate::values::{read_first_and_more, read_mass, read_pair};
 use desk_base::NoMemory;
-use hold_limits::{Combined, Cumulative, Places, Position};
+use hold_limits::{Combined, Cumulative, Places};
 use std::alloc::Global;
 use toml::Value;
 
-fn has_name(position: &Position, name: &[u8]) -> bool
-    ensures { result ≡ bytes_eq position.now.name name.now }
-{
-    position.name.bytes() == name
-}
-
-/// The number of the first position with the name.
-#[tactic(auto, unfolding(crate::specs::Forms::number_named))]
-fn number_of(positions: &[Position], name: &[u8]) -> Option<usize>
-    ensures { result ≡ number_named positions.now name.now }
-{
-    positions
-        .iter()
-        .position(|position| has_name(position, name))
-}
-
 /// The number of the named position. A number over 255 is read as 255: a hold with so many positions is
 /// refused for having too many, whatever its limits say.
-fn read_position_number(positions: &[Position], value: &Value) -> Option<u8>
-    ensures { result ≡ named_position positions.now (view value.now) }
+fn read_position_number(names: &Names<'_>, value: &Value) -> Option<u8>
+    ensures { result ≡ named_position names.now.positions.now (view value.now) }
 {
-    let number = number_of(positions, value.as_str()?.as_bytes())?;
+    let number = names.number_of(value.as_str()?.as_bytes())?;
     Some(number.min(255) as u8)
 }
 
 /// The form of a position's name.
 #[derive(Drop)]
-struct NameForm<'a> {
-    positions: &'a [Position],
+struct NameForm<'a, 'b> {
+    names: &'a Names<'b>,
 }
 
-impl<'a> Form for NameForm<'a> {
+impl<'a, 'b> Form for NameForm<'a, 'b> {
     ghost use Rattle.aircraft_file.specs.Forms.{named_position};
 
     type Content = u8;
 
-    ghost content = { λ form d. named_position form.positions.now d };
+    ghost content = { λ form d. named_position form.names.now.positions.now d };
 
     ghost limits = { λ form read. Unit {0} };
 
     fn read(&self, _alloc: Global, value: &Value) -> Result<Option<u8>, NoMemory> {
-        Ok(read_position_number(self.positions, value))
+        Ok(read_position_number(self.names, value))
     }
+}
+
+/// The form of a position's name in the array of the left or of the right side.
+#[derive(Drop)]
+pub struct SideForm<'a, 'b> {
+    pub right: bool,
+    pub names: &'a Names<'b>,
+}
+
+impl<'a, 'b> Form for SideForm<'a, 'b> {
+    ghost use Rattle.aircraft_file.specs.Forms.{named_side};
+
+    type Content = NamedSide;
+
+    ghost content = { λ form d. named_side form.right form.names.now.positions.now d };
+
+    ghost limits = { λ form read. Unit {0} };
+
+    fn read(&self, _alloc: Global, value: &Value) -> Result<Option<NamedSide>, NoMemory> {
+        Ok(read_named_side(self.right, self.names, value))
+    }
+}
+
+fn read_named_side(right: bool, names: &Names<'_>, value: &Value) -> Option<NamedSide>
+    ensures { result ≡ named_side right names.now.positions.now (view value.now) }
+{
+    let number = names.number_of(value.as_str()?.as_bytes())?;
+    Some(NamedSide { number, right })
 }
 
 /// The form `[name, name]` of an excluding pair.
 #[derive(Drop)]
-pub struct ExcludeForm<'a> {
-    pub positions: &'a [Position],
+pub struct ExcludeForm<'a, 'b> {
+    pub names: &'a Names<'b>,
 }
 
-impl<'a> Form for ExcludeForm<'a> {
+impl<'a, 'b> Form for ExcludeForm<'a, 'b> {
     ghost use Rattle.aircraft_file.specs.Forms.{exclude};
 
     type Content = (u8, u8);
 
-    ghost content = { λ form d. exclude form.positions.now d };
+    ghost content = { λ form d. exclude form.names.now.positions.now d };
 
     ghost limits = { λ form read. Unit {0} };
 
     fn read(&self, _alloc: Global, value: &Value) -> Result<Option<(u8, u8)>, NoMemory> {
-        Ok(read_exclude(self.positions, value))
+        Ok(read_exclude(self.names, value))
     }
 }
 
-fn read_exclude(positions: &[Position], value: &Value) -> Option<(u8, u8)>
-    ensures { result ≡ exclude positions.now (view value.now) }
+fn read_exclude(names: &Names<'_>, value: &Value) -> Option<(u8, u8)>
+    ensures { result ≡ exclude names.now.positions.now (view value.now) }
 {
     let (one, other) = read_pair(value)?;
     Some((
-        read_position_number(positions, one)?,
-        read_position_number(positions, other)?,
+        read_position_number(names, one)?,
+        read_position_number(names, other)?,
     ))
 }
 
 /// The form `[most, name, ..]` of a combined limit.
 #[derive(Drop)]
-pub struct CombinedForm<'a> {
-    pub positions: &'a [Position],
+pub struct CombinedForm<'a, 'b> {
+    pub names: &'a Names<'b>,
 }
 
-impl<'a> Form for CombinedForm<'a> {
+impl<'a, 'b> Form for CombinedForm<'a, 'b> {
     ghost use Rattle.aircraft_file.specs.Forms.{combined};
     ghost use Rattle.aircraft_file.specs.Lawful.{IsMass};
 
     type Content = Combined;
 
-    ghost content = { λ form d. combined form.positions.now d };
+    ghost content = { λ form d. combined form.names.now.positions.now d };
 
     ghost limits = { λ form read. IsMass 0 1000000 read.most };
 
@@ -111,9 +125,7 @@ impl<'a> Form for CombinedForm<'a> {
         let Some(most) = read_mass(most) else {
             return Ok(None);
         };
-        let form = NameForm {
-            positions: self.positions,
-        };
+        let form = NameForm { names: self.names };
         let Some(places) = read_each(alloc, &form, names)? else {
             return Ok(None);
         };
@@ -126,34 +138,34 @@ impl<'a> Form for CombinedForm<'a> {
 
 /// The form `[name, most]` of a cumulative limit of this side.
 #[derive(Drop)]
-pub struct CumulativeForm<'a> {
+pub struct CumulativeForm<'a, 'b> {
     pub forward: bool,
-    pub positions: &'a [Position],
+    pub names: &'a Names<'b>,
 }
 
-impl<'a> Form for CumulativeForm<'a> {
+impl<'a, 'b> Form for CumulativeForm<'a, 'b> {
     ghost use Rattle.aircraft_file.specs.Forms.{cumulative};
     ghost use Rattle.aircraft_file.specs.Lawful.{IsMass};
 
     type Content = Cumulative;
 
-    ghost content = { λ form d. cumulative form.forward form.positions.now d };
+    ghost content = { λ form d. cumulative form.forward form.names.now.positions.now d };
 
     ghost limits = { λ form read. IsMass 0 1000000 read.most };
 
     fn read(&self, _alloc: Global, value: &Value) -> Result<Option<Cumulative>, NoMemory> {
-        Ok(read_cumulative(self.forward, self.positions, value))
+        Ok(read_cumulative(self.forward, self.names, value))
     }
 }
 
-fn read_cumulative(forward: bool, positions: &[Position], value: &Value) -> Option<Cumulative>
-    ensures value { result ≡ cumulative forward positions.now (view value.now) }
+fn read_cumulative(forward: bool, names: &Names<'_>, value: &Value) -> Option<Cumulative>
+    ensures value { result ≡ cumulative forward names.now.positions.now (view value.now) }
     ensures limits { IfSome result (λ limit. IsMass 0 1000000 limit.most) }
 {
     let (name, most) = read_pair(value)?;
     Some(Cumulative {
         forward,
-        place: read_position_number(positions, name)?,
+        place: read_position_number(names, name)?,
         most: read_mass(most)?,
     })
 }

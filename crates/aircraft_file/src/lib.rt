@@ -23,17 +23,19 @@ mod forms;
 mod hold_forms;
 mod laws;
 mod loading_keys;
+mod names;
 mod parts;
 mod position_form;
 mod reader;
 mod section;
+mod side_keys;
 mod spelling;
 mod texts;
 mod values;
 
 pub use aircraft::Aircraft;
 pub use fault::FileFault;
-pub use laws::index_laws;
+pub use laws::{file_laws, index_laws};
 pub use reader::read_aircraft;
 pub use texts::{Registration, Version};
 

@@ -1,4 +1,4 @@
-//! The keys 22 to 34: zones, hold, fuel table and envelopes.
+//! The keys 22 to 34, zones, hold, fuel table and envelopes, and then all keys of a file.
 
 ghost use Rattle.std.specs.Prelude.{◌≡◌, ◌≤◌, ◌++◌, All, IfOk};
 ghost use Rattle.hold_limits.specs.Faults.{IsWellSpelled};
@@ -13,12 +13,14 @@ use crate::balance_forms::{CornerForm, FuelRowForm, ZoneForm};
 use crate::fault::FileFault;
 use crate::figure_keys::read_figures;
 use crate::hold_forms::{CombinedForm, CumulativeForm, ExcludeForm};
+use crate::names::Names;
 use crate::parts::{AllSides, HoldParts, Limits, Parts, Sides};
 use crate::position_form::PositionForm;
 use crate::section::Section;
+use crate::side_keys::read_lateral;
 use desk_base::NoMemory;
 use fuel_table::FuelRow;
-use hold_limits::{Cumulative, Position};
+use hold_limits::Cumulative;
 use payload::Zone;
 use std::alloc::Global;
 
@@ -41,29 +43,26 @@ fn read_hold(alloc: Global, document: &Section<'_>) -> Result<HoldParts, FileFau
     ensures limits { IfOk result (λ hold. IsWellSpelled (hold_in hold)) }
 {
     let positions = document.array(alloc, 23, "position", &PositionForm)?;
-    let limits = read_limits(alloc, &positions, &document.section("hold"))?;
+    let hold = document.section("hold");
+    let limits = read_limits(alloc, &Names::new(alloc, &positions)?, &hold)?;
     Ok(HoldParts { positions, limits })
 }
 
-fn read_limits(
-    alloc: Global,
-    positions: &[Position],
-    hold: &Section<'_>,
-) -> Result<Limits, FileFault>
-    ensures value { Answers limits_in result (limits_of positions.now (contents hold.now)) }
+fn read_limits(alloc: Global, names: &Names<'_>, hold: &Section<'_>) -> Result<Limits, FileFault>
+    ensures value { Answers limits_in result (limits_of names.now.positions.now (contents hold.now)) }
     ensures combined { IfOk result (λ limits. AreCombined limits.combined.items) }
     ensures cumulative { IfOk result (λ limits. AreCumulative limits.cumulative.items) }
 {
-    let excludes = hold.array_or_empty(alloc, 24, "exclude", &ExcludeForm { positions })?;
-    let combined = hold.array_or_empty(alloc, 25, "combined", &CombinedForm { positions })?;
+    let excludes = hold.array_or_empty(alloc, 24, "exclude", &ExcludeForm { names })?;
+    let combined = hold.array_or_empty(alloc, 25, "combined", &CombinedForm { names })?;
     let forward = CumulativeForm {
         forward: true,
-        positions,
+        names,
     };
     let forward = hold.array_or_empty(alloc, 26, "forward", &forward)?;
     let aft = CumulativeForm {
         forward: false,
-        positions,
+        names,
     };
     let aft = hold.array_or_empty(alloc, 27, "aft", &aft)?;
     Ok(Limits {
@@ -121,11 +120,18 @@ pub fn read_parts(alloc: Global, document: &Section<'_>) -> Result<Parts, FileFa
     ensures value { Answers craft_in_parts result (craft_in (contents document.now)) }
     ensures limits { IfOk result (λ parts. IsWithinLimits (craft_in_parts parts)) }
 {
+    let figures = read_figures(document)?;
+    let zones = read_zones(alloc, document)?;
+    let hold = read_hold(alloc, document)?;
+    let fuel = read_fuel(alloc, &document.section("fuel"))?;
+    let sides = read_all_sides(alloc, &document.section("envelope"))?;
+    let lateral = read_lateral(alloc, &hold.positions, &document.section("hold"))?;
     Ok(Parts {
-        figures: read_figures(document)?,
-        zones: read_zones(alloc, document)?,
-        hold: read_hold(alloc, document)?,
-        fuel: read_fuel(alloc, &document.section("fuel"))?,
-        sides: read_all_sides(alloc, &document.section("envelope"))?,
+        figures,
+        zones,
+        hold,
+        fuel,
+        sides,
+        lateral,
     })
 }

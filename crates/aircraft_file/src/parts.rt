@@ -3,7 +3,7 @@
 use crate::figures::Figures;
 use envelope::{Corner, Envelope};
 use fuel_table::FuelRow;
-use hold_limits::{Combined, Cumulative, Position};
+use hold_limits::{Combined, Cumulative, Lateral, Position};
 use payload::Zone;
 
 /// The positions from nose to tail, and the limits on them.
@@ -52,4 +52,5 @@ pub struct Parts {
     pub hold: HoldParts,
     pub fuel: Vec<FuelRow>,
     pub sides: AllSides,
+    pub lateral: Option<Lateral>,
 }

@@ -168,8 +168,8 @@ const LISTS: [Case; 9] = [
     ),
 ];
 
-/// The keys that may be absent. The file has two of them.
-const LIMITS: [Case; 4] = [
+/// The keys that may be absent, of which the file has two.
+const LIMITS: [Case; 7] = [
     (
         24,
         "[hold]",
@@ -184,6 +184,19 @@ const LIMITS: [Case; 4] = [
     ),
     (26, "[hold]", "[hold]", "[hold]\nforward = [[4500, \"11\"]]"),
     (27, r#"aft = [["41", 4500]]"#, "", r#"aft = [["41"]]"#),
+    (35, "[hold]", "[hold]", "[hold]\nlateral = 1000001"),
+    (
+        36,
+        "[hold]",
+        "[hold]\nlateral = 0",
+        "[hold]\nlateral = 0\nleft = [\"11\", \"11\"]",
+    ),
+    (
+        37,
+        "[hold]",
+        "[hold]\nleft = [\"11\", \"99\"]\nright = 5",
+        "[hold]\nlateral = 0\nleft = [\"11\"]\nright = [\"11\"]",
+    ),
 ];
 
 /// The result for the file with some of its texts replaced.
@@ -255,6 +268,7 @@ fn the_first_fault_decides(rt: HostRuntime) -> Result<(), Fail> {
 #[test]
 fn rules_of_single_forms(rt: HostRuntime) -> Result<(), Fail> {
     let bulk = "bulk = true";
+    let hold = "[hold]";
     let table = [
         ("[dry]", "dry = 5\n[other]", Some(FileFault::Missing(3))),
         (
@@ -271,6 +285,22 @@ fn rules_of_single_forms(rt: HostRuntime) -> Result<(), Fail> {
             Some(FileFault::Hold(HoldFault::Influence(4))),
         ),
         (bulk, "bulk = false\nfits = [[\"AKE\", 1500]]", None),
+        (hold, "[hold]\nlateral = -1", Some(FileFault::Wrong(35))),
+        (
+            hold,
+            "[hold]\nlateral = 0\nleft = [\"99\"]",
+            Some(FileFault::Wrong(36)),
+        ),
+        (
+            hold,
+            "[hold]\nlateral = 0\nright = [\"12\", \"99\"]",
+            Some(FileFault::Wrong(37)),
+        ),
+        (
+            hold,
+            "[hold]\nlateral = 0\nright = [\"12\", \"12\"]",
+            Some(FileFault::Wrong(37)),
+        ),
     ];
     for (old, new, fault) in table {
         let got = fault_with(rt.alloc(), &[(old, new)])?;
@@ -362,6 +392,7 @@ fn its_hold_is_read(rt: HostRuntime) -> Result<(), Fail> {
     assert_eq!(rt; positions[4].name.bytes(), b"51".as_slice());
     assert!(rt; positions[4].bulk);
     assert_eq!(rt; aircraft.hold().excludes().len(), 0);
+    assert!(rt; aircraft.hold().lateral().is_none());
     let combined = aircraft.hold().combined();
     assert_eq!(rt; combined.len(), 1);
     assert_eq!(rt; combined[0].places.as_slice(), [0, 1].as_slice());
@@ -439,5 +470,28 @@ fn forward_limits_stand_before_aft_ones(rt: HostRuntime) -> Result<(), Fail> {
         cumulative[0].forward && cumulative[0].place == 1 && cumulative[0].most == Kg(3000)
     );
     assert!(rt; !cumulative[1].forward);
+    Ok(())
+}
+
+#[test]
+fn sides_stand_in_position_order(rt: HostRuntime) -> Result<(), Fail> {
+    let sides = "[hold]\nright = [\"42\", \"11\"]\nlateral = 500\nleft = [\"41\", \"12\"]";
+    let Ok(aircraft) = read_with(rt.alloc(), &[("[hold]", sides)])? else {
+        assert!(rt; false);
+        return Ok(());
+    };
+    let Some(lateral) = aircraft.hold().lateral() else {
+        assert!(rt; false);
+        return Ok(());
+    };
+    assert_eq!(rt; lateral.most, Kg(500));
+    let in_order = [(0, true), (1, false), (2, false), (3, true)];
+    assert_eq!(rt; lateral.sides.as_slice(), in_order.as_slice());
+    let left_alone = "[hold]\nlateral = 1000000\nleft = [\"51\"]";
+    let Ok(aircraft) = read_with(rt.alloc(), &[("[hold]", left_alone)])? else {
+        assert!(rt; false);
+        return Ok(());
+    };
+    assert_eq!(rt; aircraft.hold().sides(), [(4, false)].as_slice());
     Ok(())
 }
