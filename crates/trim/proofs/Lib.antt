@@ -1,0 +1,10 @@
+pub mod BoundLemmas
+pub mod CabinLemmas
+pub mod LooseLemmas
+pub mod StowageLemmas
+pub mod WeighingLemmas
+pub mod WindowLemmas
+pub mod RuleLemmas
+pub mod PointLemmas
+pub mod TaskLemmas
+pub mod LawLemmas

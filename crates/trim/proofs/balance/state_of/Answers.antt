@@ -1,0 +1,44 @@
+use Rattle.std.proofs.Common.{◌≡◌, ◌++◌, ◌+ℤ◌, ap, ap₂, ◌∙◌, arith, length, map, zip, List}
+use Rattle.hold_parts.specs.declared.parts.Item.{Item}
+use Rattle.hold_limits.specs.Layout.{Layout}
+use Rattle.hold_limits.specs.BranchOrder.{ordered}
+use Rattle.hold_limits.specs.Placement.{hold_index}
+use Rattle.mass_limits.specs.Masses.{masses_of}
+use Rattle.desk_base.specs.Lists.{int_sum_by}
+use Rattle.trim.specs.declared.loose.Stowed.{Stowed}
+use Rattle.trim.specs.Loads.{offer}
+use Rattle.trim.specs.Stowage.{stowage, stowed_item, stowed_moment}
+use Rattle.trim.proofs.StowageLemmas.{moment-stowage}
+use Rattle.trim.proofs.balance.state_of.Goals as goal
+
+pub branch_order-order-requires : goal.branch_order-order-requires
+branch_order-order-requires c =
+    omega (arith, ap length c.as_slice-items.ensures, c.requires.complete, ap length c.as_slice-numbers.ensures.value, c.as_slice-numbers.ensures.fits)
+
+stowage-is : (c : goal.After-balance_of) → c.stowage_of-stowage.result.items ≡ stowage (offer c.args.a.now c.args.f.now) c.args.path.now.items
+stowage-is c =
+    let w = c.in_ok-flight.ensures.weighed in
+    c.stowage_of-stowage.ensures
+    ∙ ap₂ (λ (xs : List Item) (ys : List _). map stowed_item (zip (ordered xs) ys) ++ c.as_slice-2.result.now) c.as_slice-items.ensures c.as_slice-numbers.ensures.value
+    ∙ ap (λ (zs : List Stowed). map stowed_item (zip (ordered c.args.f.now.containers) c.args.path.now.items) ++ zs) (c.as_slice-2.ensures.value ∙ w.loose)
+
+hold-is : (c : goal.After-balance_of) → c.hold_index_of-hold.result.0 ≡ hold_index (offer c.args.a.now c.args.f.now) c.args.path.now.items
+hold-is c =
+    let a = c.args.a.now in
+    c.hold_index_of-hold.ensures.value
+    ∙ ap (λ (h : Layout). int_sum_by (stowed_moment h) c.as_slice-3.result.now) c.hold.ensures.value
+    ∙ ap (int_sum_by (stowed_moment a.hold)) c.as_slice-3.ensures.value
+    ∙ moment-stowage (stowed_moment a.hold) (offer a c.args.f.now) c.args.path.now.items c.stowage_of-stowage.result.items (stowage-is c)
+
+pub returns-clause-balance : goal.returns-clause-balance
+returns-clause-balance c =
+    let w = c.in_ok-flight.ensures.weighed in
+    let b = c.balance_of.ensures in
+    record {
+      masses = b.masses ∙ ap masses_of w.input;
+      underload = rw w.input at b.underload;
+      limiting = rw w.input at b.limiting;
+      zero_fuel = b.zero_fuel ∙ ap₂ (λ x y. x +ℤ y) w.zero_fuel (hold-is c);
+      take_off = (c.in_ok-flight.flight.take_off.0, w.take_off, b.take_off ∙ ap (λ z. c.in_ok-flight.flight.take_off.0 +ℤ z) (hold-is c));
+      landing = (c.in_ok-flight.flight.landing.0, w.landing, b.landing ∙ ap (λ z. c.in_ok-flight.flight.landing.0 +ℤ z) (hold-is c));
+    }

@@ -1,0 +1,10 @@
+pub mod Limits
+pub mod Loads
+pub mod Balance
+pub mod Points
+pub mod Rules
+pub mod Refusals
+pub mod Weighed
+pub mod Stowage
+pub mod Verdicts
+pub mod Laws
