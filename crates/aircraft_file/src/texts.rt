@@ -36,6 +36,16 @@ impl Registration {
         Some(Registration { letters })
     }
 
+    /// The same registration.
+    pub fn copy(&self) -> Registration
+        ensures { result ≡ self.now }
+    {
+        match ArrayVec::try_from(self.letters.as_slice()) {
+            Ok(letters) => Registration { letters },
+            Err(_) => unreachable!(),
+        }
+    }
+
     /// The letters of the registration.
     pub fn bytes(&self) -> &[u8]
         ensures { result.now ≡ self.now }
@@ -71,6 +81,16 @@ impl Version {
         }
         let letters = ArrayVec::try_from(text).ok()?;
         Some(Version { letters })
+    }
+
+    /// The same version.
+    pub fn copy(&self) -> Version
+        ensures { result ≡ self.now }
+    {
+        match ArrayVec::try_from(self.letters.as_slice()) {
+            Ok(letters) => Version { letters },
+            Err(_) => unreachable!(),
+        }
     }
 
     /// The letters of the version.
