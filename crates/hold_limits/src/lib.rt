@@ -3,12 +3,12 @@
 #![tactic(auto)]
 
 mod balance;
-mod branch_order;
 mod fault;
 mod hold;
 mod hold_faults;
 mod laws;
 mod moments;
+mod order;
 mod rising;
 mod sound;
 mod task;
@@ -25,6 +25,7 @@ pub use hold_parts::{
     UldId, is_kind,
 };
 pub use laws::{lawful_bounds, placement_laws, twin_laws};
+pub use order::{branch_order, item_at};
 pub use rising::is_rising;
 pub use sound::is_sound;
 pub use task::{Path, Task};

@@ -3,9 +3,9 @@ ghost use Rattle.hold_limits.specs.BranchOrder.{order_of, ordered};
 ghost use Rattle.hold_limits.specs.Problem.{indices_of, problem_of};
 ghost use Rattle.hold_limits.specs.Faults.{IsLawful, task_fault};
 
-use crate::branch_order::{branch_order, item_at};
 use crate::fault::TaskFault;
 use crate::hold::Hold;
+use crate::order::{branch_order, item_at};
 use crate::task_faults::fault_of_task;
 use arrayvec::ArrayVec;
 use desk_base::NoMemory;

@@ -10,11 +10,10 @@ ghost use Rattle.trim.specs.Weighed.{AreNear};
 
 use crate::fault::TrimFault;
 use crate::figures::Figures;
-use crate::order::branch_order;
 use crate::stowage::{hold_index_of, stowage_of};
 use crate::weighing::{Weighed, weigh};
 use aircraft_file::Aircraft;
-use hold_limits::Path;
+use hold_limits::{Path, branch_order};
 use mass_limits::{Masses, Underload, masses, underload};
 use mass_units::Ticks;
 

@@ -16,7 +16,6 @@ mod laws;
 mod limits;
 mod lists;
 mod loose;
-mod order;
 mod rules;
 mod sound;
 mod stowage;

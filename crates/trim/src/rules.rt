@@ -11,13 +11,12 @@ ghost use Rattle.trim.specs.Weighed.{AreNear};
 use crate::balance::balance_of;
 use crate::fault::TrimFault;
 use crate::figures::Figures;
-use crate::order::branch_order;
 use crate::sound::is_sound;
 use crate::stowage::{hold_index_of, keeps_lateral_limit, stowage_of};
 use crate::weighing::{Weighed, weigh};
 use aircraft_file::Aircraft;
 use arrayvec::ArrayVec;
-use hold_limits::Path;
+use hold_limits::{Path, branch_order};
 use mass_limits::{MassRule, broken};
 
 /// A rule of a flight. The default only fills the unused slots of a list.

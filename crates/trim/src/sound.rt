@@ -7,9 +7,8 @@ ghost use Rattle.hold_parts.specs.Limits.{is_listed, is_counted};
 ghost use Rattle.trim.specs.Stowage.{stowed_load, KeepsHoldLimits, StandsSoundly};
 
 use crate::loose::Stowed;
-use crate::order::item_at;
 use crate::stowage::load_on;
-use hold_limits::{Combined, Cumulative, Hold, Item, Limit};
+use hold_limits::{Combined, Cumulative, Hold, Item, Limit, item_at};
 
 /// Whether each container's position accepts it.
 fn are_accepted(hold: &Hold, items: &[Item], order: &[u8], path: &[u8]) -> bool

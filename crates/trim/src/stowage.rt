@@ -9,9 +9,8 @@ ghost use Rattle.hold_parts.specs.Limits.{is_limited};
 ghost use Rattle.trim.specs.Stowage.{stowed_item, stowed_load, stowed_moment, stowed_lateral};
 
 use crate::loose::Stowed;
-use crate::order::item_at;
 use arrayvec::ArrayVec;
-use hold_limits::{Hold, Item, Limit};
+use hold_limits::{Hold, Item, Limit, item_at};
 use mass_units::Ticks;
 
 /// Up to 60 containers and 64 loose loads, each a mass on a position.
