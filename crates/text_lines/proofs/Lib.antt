@@ -1,4 +1,5 @@
 pub mod CutLemmas
+pub mod TextCuts
 pub mod WordLemmas
 pub mod NameLemmas
 pub mod RunLemmas
