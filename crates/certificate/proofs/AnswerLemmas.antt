@@ -21,7 +21,8 @@ use Rattle.certificate.specs.declared.parts.Certificate.{Certificate}
 use Rattle.certificate.specs.declared.fault.CertFault.{CertFault}
 use Rattle.certificate.specs.declared.fault.CertFault.TheVariants.{NoStart, Line, NoEnd, NoMemory}
 use Rattle.certificate.proofs.PathLemmas.{AreClear}
-use Rattle.certificate.proofs.StartLemmas.{AreLines, compare, starts_once, no_start_starts}
+use Rattle.text_lines.proofs.TextCuts.{AreLines, compare, IsCut, cut_text}
+use Rattle.certificate.proofs.StartLemmas.{starts_once, no_start_starts}
 use Rattle.certificate.proofs.EvidenceLemmas.{begin_lines, ends_once}
 use Rattle.certificate.proofs.FaultLemmas.{some_evidence}
 
@@ -148,52 +149,6 @@ refused_once ps spaces feeds text _ _ (wrong_lines before rest f starts fails) (
     (λ (e : cert_fault f ≡ NoMemory). absurd (not_a e))
     (λ (r : (cert_fault f' ≡ NoMemory) ⊎ (f ≡ f')). ⊎_elim (λ (e : cert_fault f' ≡ NoMemory). absurd (not_b e)) (λ (e : f ≡ f'). ap cert_fault e) r)
     (fails_once ps spaces feeds rest (length before + 2) f f' fails at_both)
-
--- ---- a text is its lines, and a rest that no line feed ends
-
-record IsCut (text : List ℕ) : Type 0 where
-  lines : Lines
-  rest : List ℕ
-  is : text ≡ text_of lines ++ rest
-  clear : AreLines lines
-  end : Avoids 10 rest
-
-abbrev IsOther : ℕ → Type 0
-IsOther b = eqb b 10 ≡ false
-
-cut-byte : (b : ℕ) (text : List ℕ) (lines : Lines) (rest : List ℕ) → IsOther b → text ≡ text_of lines ++ rest → AreLines lines → Avoids 10 rest → IsCut (b ∷ text)
-cut-byte b text [] rest other e clear end = record {
-  lines = [];
-  rest = b ∷ rest;
-  is = ap (λ t. b ∷ t) e;
-  clear = All-nil (Avoids 10);
-  end = All-cons IsOther b rest other end;
-}
-cut-byte b text (line ∷ lines) rest other e clear end = record {
-  lines = (b ∷ line) ∷ lines;
-  rest = rest;
-  is = ap (λ t. b ∷ t) e;
-  clear = All-cons (Avoids 10) (b ∷ line) lines (All-cons IsOther b line other (All-head (Avoids 10) line lines clear)) (All-tail (Avoids 10) line lines clear);
-  end = end;
-}
-
-cut-feed : (text : List ℕ) → IsCut text → IsCut (10 ∷ text)
-cut-feed text cut = record {
-  lines = [] ∷ cut.lines;
-  rest = cut.rest;
-  is = ap (λ t. 10 ∷ t) cut.is;
-  clear = All-cons (Avoids 10) [] cut.lines (All-nil IsOther) cut.clear;
-  end = cut.end;
-}
-
-cut_text : (text : List ℕ) → IsCut text
-cut_text [] = record { lines = []; rest = []; is = refl; clear = All-nil (Avoids 10); end = All-nil IsOther }
-cut_text (b ∷ text) =
-    let cut = cut_text text in
-    elim (cases_Bool (eqb b 10)) [
-      | inl feed ↦ subst (λ (c : ℕ). IsCut (c ∷ text)) (sym (eqb-true b 10 feed)) (cut-feed text cut)
-      | inr other ↦ cut-byte b text cut.lines cut.rest other cut.is cut.clear cut.end
-    ]
 
 -- ---- a certificate or a fault
 

@@ -17,7 +17,7 @@ use Rattle.certificate.specs.Refusals.{AreEvidence}
 use Rattle.certificate.specs.declared.parts.Certificate.{Certificate}
 use Rattle.certificate.proofs.PathLemmas.{AreClear}
 use Rattle.certificate.proofs.LineLemmas.{claim_avoids, claim_once, cut_avoids, cut_once_only, expanded_avoids, expanded_once, stops_cuts}
-use Rattle.certificate.proofs.StartLemmas.{AreLines, joined, whole_goes_on}
+use Rattle.text_lines.proofs.TextCuts.{AreLines, joined, whole_goes_on}
 
 -- the lines after the cuts
 abbrev pub last_lines : ℕ → List (List ℕ)

@@ -10,7 +10,8 @@ use Rattle.certificate.specs.declared.fault.CertFault.{CertFault}
 use Rattle.certificate.specs.declared.fault.CertFault.TheVariants.{NoMemory}
 use Rattle.std.proofs.lemmas.List.{append-nil}
 use Rattle.certificate.proofs.PathLemmas.{AreClear}
-use Rattle.certificate.proofs.StartLemmas.{starts_once, no_start_starts, whole_once}
+use Rattle.text_lines.proofs.TextCuts.{whole_once}
+use Rattle.certificate.proofs.StartLemmas.{starts_once, no_start_starts}
 use Rattle.certificate.proofs.EvidenceLemmas.{evidence_once, evidence_are, right_has_no_fault}
 
 pub spelled_once : (ps : List Position) → AreClear 32 ps → AreClear 10 ps → (text : List ℕ) (a b : Certificate) → Spells ps text a → Spells ps text b → a ≡ b

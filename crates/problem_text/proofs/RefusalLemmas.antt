@@ -18,15 +18,13 @@ use Rattle.problem_text.specs.declared.fault.TextFault.{TextFault}
 use Rattle.problem_text.specs.declared.fault.TextFault.TheVariants.{Line, NoEnd, Hold, Task, NoMemory}
 use Rattle.text_lines.proofs.WordLemmas.{plain_word}
 use Rattle.text_lines.proofs.CutLemmas.{split_once_again, has_mark}
+use Rattle.text_lines.proofs.TextCuts.{AreLines, compare}
 use Rattle.problem_text.proofs.PositionLemmas.{position_avoids}
 use Rattle.problem_text.proofs.LimitLemmas.{exclude_avoids, combined_avoids, cumulative_avoids, side_avoids, loose_avoids, AreClear}
 use Rattle.problem_text.proofs.LineLemmas.{lateral_avoids, item_avoids, base_avoids, window_avoids, ideal_avoids}
 use Rattle.problem_text.proofs.TaskLemmas.{last, rest_of, after_items, after_lateral, after_cumulative, after_combined, after_excludes, after_positions, clear_names, task_lines-whole, task_once}
 
 -- ---- no line of a task contains the end of a line
-
-abbrev AreLines : List (List ℕ) → Type 0
-AreLines lines = All (Avoids 10) lines
 
 of_section : {X : Type 0} (line : X → List ℕ) (IsRight : X → Type 0) → ((x : X) → IsRight x → Avoids 10 (line x)) → (xs : List X) → All IsRight xs → AreLines (map line xs)
 of_section line P avoids xs right = All-map (Avoids 10) line xs (All-weaker P (λ x. Avoids 10 (line x)) avoids xs right)
@@ -75,20 +73,7 @@ are_begin lines a = record { t = a.t; spelled = a.spelled; begins = ([], sym a.a
 fewer_begin : (lines more : List (List ℕ)) → BeginTask (lines ++ more) → BeginTask lines
 fewer_begin lines more b = record { t = b.t; spelled = b.spelled; begins = (more ++ b.begins.0, b.begins.1 ∙ append_assoc lines more b.begins.0) }
 
--- ---- a text is cut into lines in one way
-
--- of two cuts of a text into first lines and a rest, one goes on where the other stops
-compare : (xs ys : List (List ℕ)) (rest other : List ℕ) → AreLines xs → AreLines ys → text_of xs ++ rest ≡ text_of ys ++ other
-    → ((zs : List (List ℕ)) × (ys ≡ xs ++ zs) × (rest ≡ text_of zs ++ other)) ⊎ ((zs : List (List ℕ)) × (xs ≡ ys ++ zs) × (other ≡ text_of zs ++ rest))
-compare [] ys rest other p q e = inl (ys, refl, e)
-compare (x ∷ xs) [] rest other p q e = inr (x ∷ xs, refl, sym e)
-compare (x ∷ xs) (y ∷ ys) rest other p q e =
-    let whole = sym (append_assoc x (10 ∷ text_of xs) rest) ∙ e ∙ append_assoc y (10 ∷ text_of ys) other in
-    let cut = split_once_again 10 x (text_of xs ++ rest) y (text_of ys ++ other) (All-head (Avoids 10) x xs p) (All-head (Avoids 10) y ys q) whole in
-    ⊎_elim
-    (λ (h : (zs : List (List ℕ)) × (ys ≡ xs ++ zs) × (rest ≡ text_of zs ++ other)). inl (h.0, (λ i. sym cut.0 i ∷ h.1 i), h.2))
-    (λ (h : (zs : List (List ℕ)) × (xs ≡ ys ++ zs) × (other ≡ text_of zs ++ rest)). inr (h.0, (λ i. cut.0 i ∷ h.1 i), h.2))
-    (compare xs ys rest other (All-tail (Avoids 10) x xs p) (All-tail (Avoids 10) y ys q) cut.1)
+-- ---- the first lines with which some task begins, as far as there are any
 
 -- the lines are all with which some task begins
 record Longest (text : List ℕ) (lines : List (List ℕ)) (rest : List ℕ) : Type 0 where

@@ -1,5 +1,6 @@
 pub mod CutLemmas
 pub mod TextCuts
+pub mod GrowingTexts
 pub mod WordLemmas
 pub mod NameLemmas
 pub mod RunLemmas

@@ -4,7 +4,8 @@ use Rattle.std.proofs.lemmas.List.Elements.{All-map}
 use Rattle.arrayvec.specs.ArrayVec.{ArrayVec}
 use Rattle.text_lines.specs.Lines.{text_of}
 use Rattle.certificate.specs.CertificateText.{cut_line}
-use Rattle.certificate.proofs.WriterLemmas.{lines_grow_of, lines_of_paths}
+use Rattle.text_lines.proofs.GrowingTexts.{lines_grow_of}
+use Rattle.certificate.proofs.WriterLemmas.{lines_of_paths}
 use Rattle.certificate.proofs.line_writers.push_cuts.Goals as goal
 
 pub loop-cut-preserved : goal.loop-cut-preserved

@@ -1,6 +1,6 @@
 use Rattle.std.proofs.Common.{◌∙◌, ◌++◌, ◌∷◌, ap}
 use Rattle.text_lines.specs.WordRuns.{name_text}
-use Rattle.certificate.proofs.WriterLemmas.{run_grows}
+use Rattle.text_lines.proofs.GrowingTexts.{run_grows}
 use Rattle.certificate.proofs.line_writers.push_names.Goals as goal
 
 pub loop-number-preserved : goal.loop-number-preserved

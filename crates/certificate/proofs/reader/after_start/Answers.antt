@@ -4,7 +4,7 @@ use Rattle.std.proofs.lemmas.List.Elements.{All-push}
 use Rattle.text_lines.specs.Lines.{text_of}
 use Rattle.certificate.specs.CertificateText.{start_line, IsEarlier}
 use Rattle.certificate.proofs.PathLemmas.{other_text}
-use Rattle.certificate.proofs.StartLemmas.{joined}
+use Rattle.text_lines.proofs.TextCuts.{joined}
 use Rattle.certificate.proofs.reader.after_start.Goals as goal
 
 pub loop-line-preserved : goal.loop-line-preserved

@@ -1,5 +1,5 @@
 use Rattle.problem_text.specs.WordRuns.{fit_text}
-use Rattle.problem_text.proofs.WriterLemmas.{run_grows}
+use Rattle.text_lines.proofs.GrowingTexts.{run_grows}
 use Rattle.problem_text.proofs.line_writers.push_fits.Goals as goal
 
 pub loop-fit-preserved : goal.loop-fit-preserved

@@ -1,5 +1,5 @@
 use Rattle.problem_text.specs.TaskText.{combined_line}
-use Rattle.problem_text.proofs.WriterLemmas.{lines_grow_by}
+use Rattle.text_lines.proofs.GrowingTexts.{lines_grow_by}
 use Rattle.problem_text.proofs.writer.push_all_combined.Goals as goal
 
 pub loop-limit-preserved : goal.loop-limit-preserved

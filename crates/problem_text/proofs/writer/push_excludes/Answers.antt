@@ -1,5 +1,5 @@
 use Rattle.problem_text.specs.TaskText.{exclude_line}
-use Rattle.problem_text.proofs.WriterLemmas.{lines_grow}
+use Rattle.text_lines.proofs.GrowingTexts.{lines_grow}
 use Rattle.problem_text.proofs.writer.push_excludes.Goals as goal
 
 pub loop-pair-preserved : goal.loop-pair-preserved

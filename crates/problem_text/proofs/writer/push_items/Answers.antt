@@ -1,7 +1,7 @@
 use Rattle.hold_parts.specs.declared.parts.Item.{Item}
 use Rattle.hold_parts.specs.Spellings.{IsUldId}
 use Rattle.problem_text.specs.TaskText.{item_line}
-use Rattle.problem_text.proofs.WriterLemmas.{lines_grow_of}
+use Rattle.text_lines.proofs.GrowingTexts.{lines_grow_of}
 use Rattle.problem_text.proofs.writer.push_items.Goals as goal
 
 pub loop-item-preserved : goal.loop-item-preserved

@@ -1,7 +1,7 @@
 use Rattle.hold_parts.specs.declared.parts.Position.{Position}
 use Rattle.hold_parts.specs.Spellings.{IsName}
 use Rattle.problem_text.specs.TaskText.{position_line}
-use Rattle.problem_text.proofs.WriterLemmas.{lines_grow_of}
+use Rattle.text_lines.proofs.GrowingTexts.{lines_grow_of}
 use Rattle.problem_text.proofs.writer.push_positions.Goals as goal
 
 pub loop-position-preserved : goal.loop-position-preserved
