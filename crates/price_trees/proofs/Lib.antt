@@ -1,0 +1,5 @@
+pub mod SignedSums
+pub mod PriceLaw
+pub mod NarrowingLemmas
+pub mod TreeLaw
+pub mod BestPath
