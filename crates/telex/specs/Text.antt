@@ -8,6 +8,10 @@ use Rattle.telex.specs.declared.reading.TelexFault.TheVariants.{BadByte, LineToo
 abbrev pub line_feed : ℕ
 line_feed = 10
 
+-- the byte before a word that is not the first of its line
+abbrev pub space : ℕ
+space = 32
+
 -- a line has at most so many bytes, without its line feed
 abbrev pub longest_line : ℕ
 longest_line = 200
