@@ -200,7 +200,7 @@ of_start ps text before more rest start none faults starts e clear end =
     has_longest ps [] more (some_evidence ps) (λ lines others g begins halt.
     of_longest ps text before lines others rest start none faults starts (e ∙ ap (λ (xs : Lines). text_of xs ++ rest) g) (after lines others (subst AreLines g clear)) end begins halt)
 
--- the text's lines, one after another: these were passed over
+-- the text's lines, one after another: these were skipped
 pass : (ps : List Position) (text : List ℕ) (before more : Lines) (rest : List ℕ) → HasNoCertificate ps text → HasNoFault ps text → All IsEarlier before → text ≡ text_of before ++ (text_of more ++ rest) → AreLines more → Avoids 10 rest → ⊥
 pass ps text before [] rest none faults earlier e clear end =
     let same = faults NoStart (no_start (record { lines = before; rest = rest; earlier = earlier; end = end; is = e })) in absurd (cc)

@@ -12,7 +12,7 @@
 //!
 //! The second line names the positions of the path that is claimed to be the best, or it is `none` for the claim that
 //! nothing fits. Each cut has a line with its positions, and is `cut` alone where it is the empty prefix. Any lines
-//! before `CERTIFICATE 1` are passed over, so that a whole answer to a task is the text of a certificate.
+//! before `CERTIFICATE 1` are skipped, so that a whole answer to a task is the text of a certificate.
 #![tactic(auto)]
 
 mod fault;

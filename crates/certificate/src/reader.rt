@@ -22,7 +22,7 @@ use text_lines::{LineFault, Lines, expect_line};
 const START: &[u8] = b"CERTIFICATE 1";
 
 /// Reads the certificate that the text spells over the positions of the task's hold. Lines before the first line
-/// `CERTIFICATE 1` are passed over, and nothing follows the certificate.
+/// `CERTIFICATE 1` are skipped, and nothing follows the certificate.
 ///
 /// A name that no position of the hold has, more than 60 names on a line, a cut past the 3,200,000th and a number of
 /// looked-at prefixes over 50,000 make their line wrong. A claimed path may have any number of positions up to 60. The

@@ -8,6 +8,7 @@ use hold_limits::{Fit, Hold, Name, Path, Position, Task};
 use mass_units::{Kg, Ticks};
 use std::alloc::Global;
 use std::test::Fail;
+use telex::Builder;
 
 const CERTIFICATE: &[u8] = b"CERTIFICATE 1
 best 12 41
@@ -75,9 +76,10 @@ fn rewritten(alloc: Global, text: &[u8]) -> Result<Vec<u8>, Fail> {
 fn answer_with(alloc: Global, text: &[u8]) -> Result<Vec<u8>, Fail> {
     let task = task(alloc)?;
     let certificate = read_certificate(alloc, &task, text)?;
-    let mut answer = ANSWER.to_vec(alloc)?;
-    push_certificate(alloc, &mut answer, &task, &certificate)?;
-    Ok(answer)
+    let mut answer = Builder::new(alloc);
+    answer.text(ANSWER)?;
+    push_certificate(&mut answer, &task, &certificate)?;
+    Ok(answer.finish())
 }
 
 // Why the text is refused, if it is.

@@ -10,25 +10,25 @@ use crate::parts::Certificate;
 use desk_base::NoMemory;
 use hold_limits::Task;
 use std::alloc::Global;
+use telex::Builder;
 
 /// Appends the text of the certificate over the positions of the task's hold.
 pub fn push_certificate(
-    alloc: Global,
-    text: &mut Vec<u8>,
+    out: &mut Builder,
     task: &Task,
     certificate: &Certificate,
 ) -> Result<(), NoMemory>
-    ensures written { OnOk result (text.new.items
-        ≡ text.old.items ++ certificate_text task.now.hold.positions certificate.now) }
+    ensures written { OnOk result (out.new
+        ≡ out.old ++ certificate_text task.now.hold.positions certificate.now) }
     ensures short_claim { OnOk result (IfSome (claimed certificate.now.claim) (λ path. length path ≤ 60)) }
     ensures short_cuts { OnOk result (All (λ cut. length cut ≤ 60) certificate.now.cuts) }
 {
     let hold = task.hold();
-    text.extend_from_slice(b"CERTIFICATE 1\n")?;
-    push_claim(text, hold, &certificate.claim)?;
-    push_cuts(text, hold, certificate.cuts.as_slice())?;
-    push_expanded(alloc, text, certificate.expanded)?;
-    text.extend_from_slice(b"END\n")?;
+    out.text(b"CERTIFICATE 1\n")?;
+    push_claim(out, hold, &certificate.claim)?;
+    push_cuts(out, hold, certificate.cuts.as_slice())?;
+    push_expanded(out, certificate.expanded)?;
+    out.text(b"END\n")?;
     Ok(())
 }
 
@@ -47,7 +47,7 @@ pub fn write_certificate(
         → Spells task.now.hold.positions (text_of before ++ text.items) certificate.now) }
 {
     let _hold = task.hold();
-    let mut text = Vec::new(alloc);
-    push_certificate(alloc, &mut text, task, certificate)?;
-    Ok(text)
+    let mut out = Builder::new(alloc);
+    push_certificate(&mut out, task, certificate)?;
+    Ok(out.finish())
 }

@@ -26,6 +26,7 @@ use load_io::Shelf;
 use placer::{Answer, place, write_answer};
 use plan_text::push_balance;
 use std::alloc::Global;
+use telex::Builder;
 
 fn outcome_of(answer: &Answer) -> Outcome
     ensures { result ≡ outcome_of answer.now }
@@ -77,25 +78,24 @@ fn total_mass(items: &[Item]) -> u64
     total
 }
 
-/// The number of a generated load, and its mass.
-fn load_head(alloc: Global, number: u32, task: &Task) -> Result<Vec<u8>, NoMemory>
+/// A text that begins with the number of a generated load, and its mass.
+fn load_head(alloc: Global, number: u32, task: &Task) -> Result<Builder, NoMemory>
     requires { task.now ≡ generated_problem number }
-    ensures { IfOk result (λ text. text.items ≡ text_of (load_lines number)) }
+    ensures { IfOk result (λ out. out ≡ text_of (load_lines number)) }
 {
-    let mut text = Vec::new(alloc);
-    push_number_line(alloc, &mut text, b"GEN", u64::from(number))?;
-    push_number_line(alloc, &mut text, b"mass", total_mass(task.items()))?;
-    Ok(text)
+    let mut out = Builder::new(alloc);
+    push_number_line(&mut out, b"GEN", u64::from(number))?;
+    push_number_line(&mut out, b"mass", total_mass(task.items()))?;
+    Ok(out)
 }
 
 /// Appends how many cuts a certificate has, and how many prefixes were looked at.
-fn push_counts(alloc: Global, text: &mut Vec<u8>, c: &Certificate) -> Result<(), NoMemory>
-    ensures { OnOk result (text.new.items ≡ text.old.items ++ text_of (count_lines c.now)) }
+fn push_counts(out: &mut Builder, c: &Certificate) -> Result<(), NoMemory>
+    ensures { OnOk result (out.new ≡ out.old ++ text_of (count_lines c.now)) }
 {
-    push_number_line(alloc, text, b"cuts", c.cuts.as_slice().len() as u64)?;
-    push_number_line(alloc, text, b"expanded", u64::from(c.expanded))?;
-    text.extend_from_slice(b"END\n")?;
-    Ok(())
+    push_number_line(out, b"cuts", c.cuts.as_slice().len() as u64)?;
+    push_number_line(out, b"expanded", u64::from(c.expanded))?;
+    out.text(b"END\n")
 }
 
 fn plan_summary(
@@ -109,11 +109,11 @@ fn plan_summary(
     ensures { (path : List ℕ) → claimed proven.now.certificate.claim ≡ Some path
         → IfOk result (λ text. text.items ≡ plan_summary number path proven.now.certificate) }
 {
-    let mut text = load_head(alloc, number, task)?;
-    text.extend_from_slice(b"PLAN\n")?;
-    push_balance(alloc, &mut text, task, proven.path())?;
-    push_counts(alloc, &mut text, proven.certificate())?;
-    Ok(text)
+    let mut out = load_head(alloc, number, task)?;
+    out.text(b"PLAN\n")?;
+    push_balance(&mut out, task, proven.path())?;
+    push_counts(&mut out, proven.certificate())?;
+    Ok(out.finish())
 }
 
 fn none_summary(
@@ -125,19 +125,19 @@ fn none_summary(
     requires { task.now ≡ generated_problem number }
     ensures { IfOk result (λ text. text.items ≡ none_summary number no_plan.now.certificate) }
 {
-    let mut text = load_head(alloc, number, task)?;
-    text.extend_from_slice(b"NONE\n")?;
-    push_counts(alloc, &mut text, no_plan.certificate())?;
-    Ok(text)
+    let mut out = load_head(alloc, number, task)?;
+    out.text(b"NONE\n")?;
+    push_counts(&mut out, no_plan.certificate())?;
+    Ok(out.finish())
 }
 
 fn budget_summary(alloc: Global, number: u32, task: &Task) -> Result<Vec<u8>, NoMemory>
     requires { task.now ≡ generated_problem number }
     ensures { IfOk result (λ text. text.items ≡ budget_summary number) }
 {
-    let mut text = load_head(alloc, number, task)?;
-    push_number_line(alloc, &mut text, b"BUDGET", u64::from(USUAL_BUDGET))?;
-    Ok(text)
+    let mut out = load_head(alloc, number, task)?;
+    push_number_line(&mut out, b"BUDGET", u64::from(USUAL_BUDGET))?;
+    Ok(out.finish())
 }
 
 fn summary_text(

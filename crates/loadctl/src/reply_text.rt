@@ -10,56 +10,49 @@ use cert_checker::Reject;
 use certificate::{CertFault, Claim, push_path};
 use desk_base::NoMemory;
 use hold_limits::{HoldFault, Path, Task, TaskFault};
-use mass_units::write_number;
 use problem_text::TextFault;
 use std::alloc::Global;
+use telex::Builder;
 
 /// A line of one word.
 pub fn word_line(alloc: Global, word: &[u8]) -> Result<Vec<u8>, NoMemory>
     ensures { IfOk result (λ text. text.items ≡ one_line (word.now ∷ [])) }
 {
-    let mut text = Vec::new(alloc);
-    text.extend_from_slice(word)?;
-    text.push(b'\n')?;
-    Ok(text)
+    let mut out = Builder::new(alloc);
+    out.text(word)?;
+    out.end_line()?;
+    Ok(out.finish())
 }
 
 /// A line of two words.
 pub fn two_word_line(alloc: Global, first: &[u8], second: &[u8]) -> Result<Vec<u8>, NoMemory>
     ensures { IfOk result (λ text. text.items ≡ one_line (first.now ∷ second.now ∷ [])) }
 {
-    let mut text = Vec::new(alloc);
-    text.extend_from_slice(first)?;
-    text.push(b' ')?;
-    text.extend_from_slice(second)?;
-    text.push(b'\n')?;
-    Ok(text)
+    let mut out = Builder::new(alloc);
+    out.text(first)?;
+    out.word(second)?;
+    out.end_line()?;
+    Ok(out.finish())
 }
 
 /// Appends the line of a word and a number.
-pub fn push_number_line(
-    alloc: Global,
-    text: &mut Vec<u8>,
-    word: &[u8],
-    number: u64,
-) -> Result<(), NoMemory>
-    ensures { OnOk result (text.new.items ≡ text.old.items ++ text_of (number_line word.now number ∷ [])) }
+pub fn push_number_line(out: &mut Builder, word: &[u8], number: u64) -> Result<(), NoMemory>
+    ensures { OnOk result (out.new ≡ out.old ++ text_of (number_line word.now number ∷ [])) }
 {
-    text.extend_from_slice(word)?;
-    text.push(b' ')?;
-    write_number(alloc, number, text)?;
-    text.push(b'\n')?;
-    Ok(())
+    out.text(word)?;
+    out.text(b" ")?;
+    out.count(number)?;
+    out.end_line()
 }
 
 /// `INPUT KIND n`.
 fn input_line(alloc: Global, kind: &[u8], number: u64) -> Result<Vec<u8>, NoMemory>
     ensures { IfOk result (λ text. text.items ≡ input_text kind.now number) }
 {
-    let mut text = Vec::new(alloc);
-    text.extend_from_slice(b"INPUT ")?;
-    push_number_line(alloc, &mut text, kind, number)?;
-    Ok(text)
+    let mut out = Builder::new(alloc);
+    out.text(b"INPUT ")?;
+    push_number_line(&mut out, kind, number)?;
+    Ok(out.finish())
 }
 
 fn number_of_hold_fault(fault: HoldFault) -> u64
@@ -132,13 +125,13 @@ pub fn good_line(alloc: Global, claim: &Claim) -> Result<Vec<u8>, NoMemory>
 fn rejected_cut(alloc: Global, reason: u64, at: usize) -> Result<Vec<u8>, NoMemory>
     ensures { IfOk result (λ text. text.items ≡ rejected_cut_text reason at) }
 {
-    let mut text = Vec::new(alloc);
-    text.extend_from_slice(b"REJECTED ")?;
-    write_number(alloc, reason, &mut text)?;
-    text.push(b' ')?;
-    write_number(alloc, at as u64, &mut text)?;
-    text.push(b'\n')?;
-    Ok(text)
+    let mut out = Builder::new(alloc);
+    out.text(b"REJECTED ")?;
+    out.count(reason)?;
+    out.text(b" ")?;
+    out.count(at as u64)?;
+    out.end_line()?;
+    Ok(out.finish())
 }
 
 /// A word, and the names of a path's positions.
@@ -146,9 +139,9 @@ fn named_path(alloc: Global, task: &Task, word: &[u8], path: &Path) -> Result<Ve
     ensures { IfOk result (λ text. text.items
         ≡ text_of (path_line word.now task.now.hold.positions path.now.items ∷ [])) }
 {
-    let mut text = Vec::new(alloc);
-    push_path(&mut text, task.hold(), word, path)?;
-    Ok(text)
+    let mut out = Builder::new(alloc);
+    push_path(&mut out, task.hold(), word, path)?;
+    Ok(out.finish())
 }
 
 /// `REJECTED`, with the number of the reason, and with its place or the names of its path's positions.

@@ -10,38 +10,38 @@ use cert_checker::{NoPlan, Proven};
 use certificate::push_certificate;
 use desk_base::NoMemory;
 use hold_limits::Task;
-use mass_units::write_number;
 use plan_text::push_plan;
 use std::alloc::Global;
+use telex::Builder;
 
 fn plan_of(alloc: Global, task: &Task, proven: &Proven) -> Result<Vec<u8>, NoMemory>
     requires { proven.now.task ≡ task.now }
     ensures { IfOk result (λ text. text.items ≡ answer_text task.now (Answer.Best proven.now)) }
 {
-    let mut text = Vec::new(alloc);
-    push_plan(alloc, &mut text, task, proven.path())?;
-    push_certificate(alloc, &mut text, task, proven.certificate())?;
-    Ok(text)
+    let mut out = Builder::new(alloc);
+    push_plan(&mut out, task, proven.path())?;
+    push_certificate(&mut out, task, proven.certificate())?;
+    Ok(out.finish())
 }
 
 fn none_of(alloc: Global, task: &Task, no_plan: &NoPlan) -> Result<Vec<u8>, NoMemory>
     requires { no_plan.now.task ≡ task.now }
     ensures { IfOk result (λ text. text.items ≡ answer_text task.now (Answer.NoneFits no_plan.now)) }
 {
-    let mut text = Vec::new(alloc);
-    text.extend_from_slice(b"NONE\n")?;
-    push_certificate(alloc, &mut text, task, no_plan.certificate())?;
-    Ok(text)
+    let mut out = Builder::new(alloc);
+    out.text(b"NONE\n")?;
+    push_certificate(&mut out, task, no_plan.certificate())?;
+    Ok(out.finish())
 }
 
 fn budget_of(alloc: Global, budget: u32) -> Result<Vec<u8>, NoMemory>
     ensures { IfOk result (λ text. text.items ≡ budget_text budget) }
 {
-    let mut text = Vec::new(alloc);
-    text.extend_from_slice(b"BUDGET ")?;
-    write_number(alloc, u64::from(budget), &mut text)?;
-    text.push(b'\n')?;
-    Ok(text)
+    let mut out = Builder::new(alloc);
+    out.text(b"BUDGET ")?;
+    out.count(u64::from(budget))?;
+    out.end_line()?;
+    Ok(out.finish())
 }
 
 /// The text of an answer to the task: the plan or `NONE`, and then the certificate; or `BUDGET` with the budget.

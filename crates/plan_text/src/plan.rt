@@ -8,48 +8,40 @@ ghost use Rattle.plan_text.specs.PlanText.{one_line, place_lines, balance_lines,
 
 use desk_base::NoMemory;
 use hold_limits::{Path, Task, lateral_of, outcome};
-use mass_units::{Ticks, write_signed, write_ticks5};
-use std::alloc::Global;
+use mass_units::Ticks;
+use telex::Builder;
 
 /// Appends `WORD INDEX`.
-fn push_index_line(
-    alloc: Global,
-    text: &mut Vec<u8>,
-    word: &[u8],
-    index: Ticks,
-) -> Result<(), NoMemory>
-    ensures { OnOk result (text.new.items
-        ≡ text.old.items ++ one_line (word.now ∷ index_text index.0 ∷ [])) }
+fn push_index_line(out: &mut Builder, word: &[u8], index: Ticks) -> Result<(), NoMemory>
+    ensures { OnOk result (out.new
+        ≡ out.old ++ one_line (word.now ∷ index_text index.0 ∷ [])) }
 {
-    text.extend_from_slice(word)?;
-    text.push(b' ')?;
-    write_ticks5(alloc, index, text)?;
-    text.push(b'\n')?;
-    Ok(())
+    out.text(word)?;
+    out.text(b" ")?;
+    out.index(index)?;
+    out.end_line()
 }
 
 /// Appends `place ID NAME`.
-fn push_place_line(text: &mut Vec<u8>, id: &[u8], name: &[u8]) -> Result<(), NoMemory>
-    ensures { OnOk result (text.new.items
-        ≡ text.old.items ++ one_line (codes "place" ∷ id.now ∷ name.now ∷ [])) }
+fn push_place_line(out: &mut Builder, id: &[u8], name: &[u8]) -> Result<(), NoMemory>
+    ensures { OnOk result (out.new
+        ≡ out.old ++ one_line (codes "place" ∷ id.now ∷ name.now ∷ [])) }
 {
-    text.extend_from_slice(b"place ")?;
-    text.extend_from_slice(id)?;
-    text.push(b' ')?;
-    text.extend_from_slice(name)?;
-    text.push(b'\n')?;
-    Ok(())
+    out.text(b"place")?;
+    out.word(id)?;
+    out.word(name)?;
+    out.end_line()
 }
 
 /// Appends a line for each container of the path, in branch order.
-fn push_place_lines(text: &mut Vec<u8>, task: &Task, path: &[u8]) -> Result<(), NoMemory>
+fn push_place_lines(out: &mut Builder, task: &Task, path: &[u8]) -> Result<(), NoMemory>
     requires { length path.now ≤ length task.now.items }
-    ensures { OnOk result (text.new.items
-        ≡ text.old.items ++ text_of (place_lines task.now (placed task.now path.now))) }
+    ensures { OnOk result (out.new
+        ≡ out.old ++ text_of (place_lines task.now (placed task.now path.now))) }
 {
     for rank in 0..path.len() {
         let item = task.at_rank(rank);
-        push_place_line(text, item.id.bytes(), task.hold().name_at(path[rank]))?;
+        push_place_line(out, item.id.bytes(), task.hold().name_at(path[rank]))?;
     }
     Ok(())
 }
@@ -63,20 +55,14 @@ fn ticks_of(distance: u64) -> Ticks
 }
 
 /// Appends `WORD KILOGRAMS`.
-fn push_mass_line(
-    alloc: Global,
-    text: &mut Vec<u8>,
-    word: &[u8],
-    kilograms: i32,
-) -> Result<(), NoMemory>
-    ensures { OnOk result (text.new.items
-        ≡ text.old.items ++ one_line (word.now ∷ signed_text kilograms ∷ [])) }
+fn push_mass_line(out: &mut Builder, word: &[u8], kilograms: i32) -> Result<(), NoMemory>
+    ensures { OnOk result (out.new
+        ≡ out.old ++ one_line (word.now ∷ signed_text kilograms ∷ [])) }
 {
-    text.extend_from_slice(word)?;
-    text.push(b' ')?;
-    write_signed(alloc, kilograms, text)?;
-    text.push(b'\n')?;
-    Ok(())
+    out.text(word)?;
+    out.text(b" ")?;
+    out.number(i64::from(kilograms))?;
+    out.end_line()
 }
 
 /// A lateral difference, in kilograms, as a number of 32 bits.
@@ -88,58 +74,38 @@ fn kilograms_of(difference: i64) -> i32
 }
 
 /// Appends `lateral DIFFERENCE`, where the hold has a lateral limit.
-fn push_difference(
-    alloc: Global,
-    text: &mut Vec<u8>,
-    task: &Task,
-    path: &Path,
-) -> Result<(), NoMemory>
+fn push_difference(out: &mut Builder, task: &Task, path: &Path) -> Result<(), NoMemory>
     requires { IsSound task.now path.now.items }
-    ensures { OnOk result (text.new.items
-        ≡ text.old.items ++ text_of (difference_lines task.now path.now.items)) }
+    ensures { OnOk result (out.new
+        ≡ out.old ++ text_of (difference_lines task.now path.now.items)) }
 {
     if task.hold().lateral().is_some() {
-        push_mass_line(
-            alloc,
-            text,
-            b"lateral",
-            kilograms_of(lateral_of(task, path)),
-        )?;
+        push_mass_line(out, b"lateral", kilograms_of(lateral_of(task, path)))?;
     }
     Ok(())
 }
 
 /// Appends the take-off index of a sound path, and its distance from the ideal index.
-pub fn push_balance(
-    alloc: Global,
-    text: &mut Vec<u8>,
-    task: &Task,
-    path: &Path,
-) -> Result<(), NoMemory>
+pub fn push_balance(out: &mut Builder, task: &Task, path: &Path) -> Result<(), NoMemory>
     requires { IsSound task.now path.now.items }
-    ensures { OnOk result (text.new.items
-        ≡ text.old.items ++ text_of (balance_lines task.now path.now.items)) }
+    ensures { OnOk result (out.new
+        ≡ out.old ++ text_of (balance_lines task.now path.now.items)) }
 {
     let (take_off, distance) = outcome(task, path);
-    push_index_line(alloc, text, b"index", take_off)?;
-    push_index_line(alloc, text, b"distance", ticks_of(distance))?;
+    push_index_line(out, b"index", take_off)?;
+    push_index_line(out, b"distance", ticks_of(distance))?;
     Ok(())
 }
 
 /// Appends the plan of a sound path: a line for each container in branch order, the take-off index, its distance from the
 /// ideal index, and the lateral difference where the hold limits it.
-pub fn push_plan(
-    alloc: Global,
-    text: &mut Vec<u8>,
-    task: &Task,
-    path: &Path,
-) -> Result<(), NoMemory>
+pub fn push_plan(out: &mut Builder, task: &Task, path: &Path) -> Result<(), NoMemory>
     requires { IsSound task.now path.now.items }
-    ensures { OnOk result (text.new.items ≡ text.old.items ++ plan_text task.now path.now.items) }
+    ensures { OnOk result (out.new ≡ out.old ++ plan_text task.now path.now.items) }
 {
-    text.extend_from_slice(b"PLAN\n")?;
-    push_place_lines(text, task, path.as_slice())?;
-    push_balance(alloc, text, task, path)?;
-    push_difference(alloc, text, task, path)?;
+    out.text(b"PLAN\n")?;
+    push_place_lines(out, task, path.as_slice())?;
+    push_balance(out, task, path)?;
+    push_difference(out, task, path)?;
     Ok(())
 }

@@ -10,8 +10,8 @@ ghost use Rattle.text_lines.specs.WordRuns.{run_text, name_text};
 
 use desk_base::NoMemory;
 use hold_limits::{Combined, Cumulative, Fit, Hold, Item, Loose, Position};
-use mass_units::{Kg, Ticks, write_number, write_signed, write_ticks5};
-use std::alloc::Global;
+use mass_units::{Kg, Ticks};
+use telex::Builder;
 
 /// The first word of a position's line.
 fn word_of_position(bulk: bool) -> &'static [u8]
@@ -34,216 +34,184 @@ fn word_of_side(right: bool) -> &'static [u8]
     if right { b"right" } else { b"left" }
 }
 
-/// Appends a word after a space.
-fn push_word(text: &mut Vec<u8>, word: &[u8]) -> Result<(), NoMemory>
-    ensures { OnOk result (text.new.items ≡ text.old.items ++ 32 ∷ word.now) }
+/// Appends a mass after a space.
+fn push_mass(out: &mut Builder, mass: Kg) -> Result<(), NoMemory>
+    ensures { OnOk result (out.new ≡ out.old ++ 32 ∷ number_text mass.0) }
 {
-    text.push(b' ')?;
-    text.extend_from_slice(word)?;
-    Ok(())
+    out.text(b" ")?;
+    out.mass(mass)
 }
 
 /// Appends a number after a space.
-fn push_number(alloc: Global, text: &mut Vec<u8>, number: u32) -> Result<(), NoMemory>
-    ensures { OnOk result (text.new.items ≡ text.old.items ++ 32 ∷ number_text number) }
+fn push_number(out: &mut Builder, number: u8) -> Result<(), NoMemory>
+    ensures { OnOk result (out.new ≡ out.old ++ 32 ∷ number_text number) }
 {
-    text.push(b' ')?;
-    write_number(alloc, u64::from(number), text)
+    out.text(b" ")?;
+    out.count(u64::from(number))
 }
 
 /// Appends the influence of a position after a space.
-fn push_influence(alloc: Global, text: &mut Vec<u8>, position: &Position) -> Result<(), NoMemory>
+fn push_influence(out: &mut Builder, position: &Position) -> Result<(), NoMemory>
     ensures { OnOk result
-        (text.new.items ≡ text.old.items ++ 32 ∷ signed_text position.now.influence) }
+        (out.new ≡ out.old ++ 32 ∷ signed_text position.now.influence) }
 {
-    text.push(b' ')?;
-    write_signed(alloc, position.influence, text)
+    out.text(b" ")?;
+    out.number(i64::from(position.influence))
 }
 
 /// Appends an index after a space.
-fn push_index(alloc: Global, text: &mut Vec<u8>, index: Ticks) -> Result<(), NoMemory>
-    ensures { OnOk result (text.new.items ≡ text.old.items ++ 32 ∷ index_text index.0) }
+fn push_index(out: &mut Builder, index: Ticks) -> Result<(), NoMemory>
+    ensures { OnOk result (out.new ≡ out.old ++ 32 ∷ index_text index.0) }
 {
-    text.push(b' ')?;
-    write_ticks5(alloc, index, text)
+    out.text(b" ")?;
+    out.index(index)
 }
 
 /// Appends a kind with its greatest mass, each after a space.
-fn push_fit(alloc: Global, text: &mut Vec<u8>, fit: &Fit) -> Result<(), NoMemory>
-    ensures { OnOk result (text.new.items ≡ text.old.items ++ fit_text fit.now) }
+fn push_fit(out: &mut Builder, fit: &Fit) -> Result<(), NoMemory>
+    ensures { OnOk result (out.new ≡ out.old ++ fit_text fit.now) }
 {
-    push_word(text, fit.kind.as_slice())?;
-    push_number(alloc, text, fit.most.0)
+    out.word(fit.kind.as_slice())?;
+    push_mass(out, fit.most)
 }
 
 /// Appends the kinds of a position with their greatest masses.
-fn push_fits(alloc: Global, text: &mut Vec<u8>, fits: &[Fit]) -> Result<(), NoMemory>
-    ensures { OnOk result (text.new.items ≡ text.old.items ++ run_text fit_text fits.now) }
+fn push_fits(out: &mut Builder, fits: &[Fit]) -> Result<(), NoMemory>
+    ensures { OnOk result (out.new ≡ out.old ++ run_text fit_text fits.now) }
 {
     for fit in fits {
-        push_fit(alloc, text, fit)?;
+        push_fit(out, fit)?;
     }
     Ok(())
 }
 
 /// Appends the line of a position.
-pub fn push_position(alloc: Global, text: &mut Vec<u8>, position: &Position) -> Result<(), NoMemory>
+pub fn push_position(out: &mut Builder, position: &Position) -> Result<(), NoMemory>
     ensures written { OnOk result
-        (text.new.items ≡ text.old.items ++ (position_line position.now ++ 10 ∷ [])) }
+        (out.new ≡ out.old ++ (position_line position.now ++ 10 ∷ [])) }
     ensures named { IsName position.now.name }
 {
     let name = position.name.bytes();
-    text.extend_from_slice(word_of_position(position.bulk))?;
-    push_word(text, name)?;
-    push_number(alloc, text, u32::from(position.compartment))?;
-    push_influence(alloc, text, position)?;
-    push_fits(alloc, text, position.fits.as_slice())?;
-    text.push(b'\n')?;
-    Ok(())
+    out.text(word_of_position(position.bulk))?;
+    out.word(name)?;
+    push_number(out, position.compartment)?;
+    push_influence(out, position)?;
+    push_fits(out, position.fits.as_slice())?;
+    out.end_line()
 }
 
 /// Appends the line of an excluding pair.
-pub fn push_exclude(text: &mut Vec<u8>, hold: &Hold, pair: (u8, u8)) -> Result<(), NoMemory>
+pub fn push_exclude(out: &mut Builder, hold: &Hold, pair: (u8, u8)) -> Result<(), NoMemory>
     ensures { OnOk result
-        (text.new.items ≡ text.old.items ++ (exclude_line hold.now.positions pair ++ 10 ∷ [])) }
+        (out.new ≡ out.old ++ (exclude_line hold.now.positions pair ++ 10 ∷ [])) }
 {
-    text.extend_from_slice(b"exclude")?;
-    push_word(text, hold.name_at(pair.0))?;
-    push_word(text, hold.name_at(pair.1))?;
-    text.push(b'\n')?;
-    Ok(())
+    out.text(b"exclude")?;
+    out.word(hold.name_at(pair.0))?;
+    out.word(hold.name_at(pair.1))?;
+    out.end_line()
 }
 
 /// Appends the names of positions.
-fn push_names(text: &mut Vec<u8>, hold: &Hold, numbers: &[u8]) -> Result<(), NoMemory>
+fn push_names(out: &mut Builder, hold: &Hold, numbers: &[u8]) -> Result<(), NoMemory>
     ensures { OnOk result
-        (text.new.items ≡ text.old.items ++ run_text (name_text hold.now.positions) numbers.now) }
+        (out.new ≡ out.old ++ run_text (name_text hold.now.positions) numbers.now) }
 {
     for number in numbers {
-        push_word(text, hold.name_at(*number))?;
+        out.word(hold.name_at(*number))?;
     }
     Ok(())
 }
 
 /// Appends the line of a combined limit.
-pub fn push_combined(
-    alloc: Global,
-    text: &mut Vec<u8>,
-    hold: &Hold,
-    limit: &Combined,
-) -> Result<(), NoMemory>
+pub fn push_combined(out: &mut Builder, hold: &Hold, limit: &Combined) -> Result<(), NoMemory>
     ensures { OnOk result
-        (text.new.items ≡ text.old.items ++ (combined_line hold.now.positions limit.now ++ 10 ∷ [])) }
+        (out.new ≡ out.old ++ (combined_line hold.now.positions limit.now ++ 10 ∷ [])) }
 {
-    text.extend_from_slice(b"combined")?;
-    push_number(alloc, text, limit.most.0)?;
-    push_names(text, hold, limit.places.as_slice())?;
-    text.push(b'\n')?;
-    Ok(())
+    out.text(b"combined")?;
+    push_mass(out, limit.most)?;
+    push_names(out, hold, limit.places.as_slice())?;
+    out.end_line()
 }
 
 /// Appends the line of a cumulative limit.
-pub fn push_cumulative(
-    alloc: Global,
-    text: &mut Vec<u8>,
-    hold: &Hold,
-    limit: &Cumulative,
-) -> Result<(), NoMemory>
+pub fn push_cumulative(out: &mut Builder, hold: &Hold, limit: &Cumulative) -> Result<(), NoMemory>
     ensures { OnOk result
-        (text.new.items ≡ text.old.items ++ (cumulative_line hold.now.positions limit.now ++ 10 ∷ [])) }
+        (out.new ≡ out.old ++ (cumulative_line hold.now.positions limit.now ++ 10 ∷ [])) }
 {
-    text.extend_from_slice(b"cumulative")?;
-    push_word(text, word_of_end(limit.forward))?;
-    push_word(text, hold.name_at(limit.place))?;
-    push_number(alloc, text, limit.most.0)?;
-    text.push(b'\n')?;
-    Ok(())
+    out.text(b"cumulative")?;
+    out.word(word_of_end(limit.forward))?;
+    out.word(hold.name_at(limit.place))?;
+    push_mass(out, limit.most)?;
+    out.end_line()
 }
 
 /// Appends the line of a position's side.
-pub fn push_side(text: &mut Vec<u8>, hold: &Hold, side: (u8, bool)) -> Result<(), NoMemory>
+pub fn push_side(out: &mut Builder, hold: &Hold, side: (u8, bool)) -> Result<(), NoMemory>
     ensures { OnOk result
-        (text.new.items ≡ text.old.items ++ (side_line hold.now.positions side ++ 10 ∷ [])) }
+        (out.new ≡ out.old ++ (side_line hold.now.positions side ++ 10 ∷ [])) }
 {
-    text.extend_from_slice(b"side")?;
-    push_word(text, hold.name_at(side.0))?;
-    push_word(text, word_of_side(side.1))?;
-    text.push(b'\n')?;
-    Ok(())
+    out.text(b"side")?;
+    out.word(hold.name_at(side.0))?;
+    out.word(word_of_side(side.1))?;
+    out.end_line()
 }
 
 /// Appends the line of the greatest lateral difference.
-pub fn push_lateral_most(alloc: Global, text: &mut Vec<u8>, most: Kg) -> Result<(), NoMemory>
+pub fn push_lateral_most(out: &mut Builder, most: Kg) -> Result<(), NoMemory>
     ensures { OnOk result
-        (text.new.items ≡ text.old.items ++ (lateral_line most.0 ++ 10 ∷ [])) }
+        (out.new ≡ out.old ++ (lateral_line most.0 ++ 10 ∷ [])) }
 {
-    text.extend_from_slice(b"lateral")?;
-    push_number(alloc, text, most.0)?;
-    text.push(b'\n')?;
-    Ok(())
+    out.text(b"lateral")?;
+    push_mass(out, most)?;
+    out.end_line()
 }
 
 /// Appends the line of a container.
-pub fn push_item(alloc: Global, text: &mut Vec<u8>, item: &Item) -> Result<(), NoMemory>
+pub fn push_item(out: &mut Builder, item: &Item) -> Result<(), NoMemory>
     ensures written { OnOk result
-        (text.new.items ≡ text.old.items ++ (item_line item.now ++ 10 ∷ [])) }
+        (out.new ≡ out.old ++ (item_line item.now ++ 10 ∷ [])) }
     ensures identified { IsUldId item.now.id }
 {
     let id = item.id.bytes();
-    text.extend_from_slice(b"item")?;
-    push_word(text, id)?;
-    push_number(alloc, text, item.mass.0)?;
-    text.push(b'\n')?;
-    Ok(())
+    out.text(b"item")?;
+    out.word(id)?;
+    push_mass(out, item.mass)?;
+    out.end_line()
 }
 
 /// Appends the line of a loose load.
-pub fn push_loose(
-    alloc: Global,
-    text: &mut Vec<u8>,
-    hold: &Hold,
-    load: &Loose,
-) -> Result<(), NoMemory>
+pub fn push_loose(out: &mut Builder, hold: &Hold, load: &Loose) -> Result<(), NoMemory>
     ensures { OnOk result
-        (text.new.items ≡ text.old.items ++ (loose_line hold.now.positions load.now ++ 10 ∷ [])) }
+        (out.new ≡ out.old ++ (loose_line hold.now.positions load.now ++ 10 ∷ [])) }
 {
-    text.extend_from_slice(b"loose")?;
-    push_word(text, hold.name_at(load.position))?;
-    push_number(alloc, text, load.mass.0)?;
-    text.push(b'\n')?;
-    Ok(())
+    out.text(b"loose")?;
+    out.word(hold.name_at(load.position))?;
+    push_mass(out, load.mass)?;
+    out.end_line()
 }
 
 /// Appends a line of a word and an index.
-pub fn push_index_line(
-    alloc: Global,
-    text: &mut Vec<u8>,
-    word: &[u8],
-    index: Ticks,
-) -> Result<(), NoMemory>
+pub fn push_index_line(out: &mut Builder, word: &[u8], index: Ticks) -> Result<(), NoMemory>
     ensures { OnOk result
-        (text.new.items ≡ text.old.items ++ (line_of (word.now ∷ index_text index.0 ∷ []) ++ 10 ∷ [])) }
+        (out.new ≡ out.old ++ (line_of (word.now ∷ index_text index.0 ∷ []) ++ 10 ∷ [])) }
 {
-    text.extend_from_slice(word)?;
-    push_index(alloc, text, index)?;
-    text.push(b'\n')?;
-    Ok(())
+    out.text(word)?;
+    push_index(out, index)?;
+    out.end_line()
 }
 
 /// Appends a line of a word and a band of indices.
 pub fn push_band_line(
-    alloc: Global,
-    text: &mut Vec<u8>,
+    out: &mut Builder,
     word: &[u8],
     low: Ticks,
     high: Ticks,
 ) -> Result<(), NoMemory>
     ensures { OnOk result
-        (text.new.items ≡ text.old.items ++ (line_of (word.now ∷ index_text low.0 ∷ index_text high.0 ∷ []) ++ 10 ∷ [])) }
+        (out.new ≡ out.old ++ (line_of (word.now ∷ index_text low.0 ∷ index_text high.0 ∷ []) ++ 10 ∷ [])) }
 {
-    text.extend_from_slice(word)?;
-    push_index(alloc, text, low)?;
-    push_index(alloc, text, high)?;
-    text.push(b'\n')?;
-    Ok(())
+    out.text(word)?;
+    push_index(out, low)?;
+    push_index(out, high)?;
+    out.end_line()
 }

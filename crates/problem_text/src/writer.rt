@@ -14,68 +14,69 @@ use crate::line_writers::{
 use desk_base::NoMemory;
 use hold_limits::{Hold, Item, Loose, Position, Task};
 use std::alloc::Global;
+use telex::Builder;
 
-fn push_positions(alloc: Global, text: &mut Vec<u8>, positions: &[Position]) -> Result<(), NoMemory>
+fn push_positions(out: &mut Builder, positions: &[Position]) -> Result<(), NoMemory>
     ensures written { OnOk result
-        (text.new.items ≡ text.old.items ++ text_of (map position_line positions.now)) }
+        (out.new ≡ out.old ++ text_of (map position_line positions.now)) }
     ensures named { OnOk result (All (λ (q : Position). IsName q.name) positions.now) }
 {
     for position in positions {
-        push_position(alloc, text, position)?;
+        push_position(out, position)?;
     }
     Ok(())
 }
 
-fn push_excludes(text: &mut Vec<u8>, hold: &Hold) -> Result<(), NoMemory>
-    ensures { OnOk result (text.new.items
-        ≡ text.old.items ++ text_of (map (exclude_line hold.now.positions) hold.now.excludes)) }
+fn push_excludes(out: &mut Builder, hold: &Hold) -> Result<(), NoMemory>
+    ensures { OnOk result (out.new
+        ≡ out.old ++ text_of (map (exclude_line hold.now.positions) hold.now.excludes)) }
 {
     for pair in hold.excludes() {
-        push_exclude(text, hold, *pair)?;
+        push_exclude(out, hold, *pair)?;
     }
     Ok(())
 }
 
-fn push_all_combined(alloc: Global, text: &mut Vec<u8>, hold: &Hold) -> Result<(), NoMemory>
-    ensures { OnOk result (text.new.items
-        ≡ text.old.items ++ text_of (map (combined_line hold.now.positions) hold.now.combined)) }
+fn push_all_combined(out: &mut Builder, hold: &Hold) -> Result<(), NoMemory>
+    ensures { OnOk result (out.new
+        ≡ out.old ++ text_of (map (combined_line hold.now.positions) hold.now.combined)) }
 {
     for limit in hold.combined() {
-        push_combined(alloc, text, hold, limit)?;
+        push_combined(out, hold, limit)?;
     }
     Ok(())
 }
 
-fn push_all_cumulative(alloc: Global, text: &mut Vec<u8>, hold: &Hold) -> Result<(), NoMemory>
-    ensures { OnOk result (text.new.items
-        ≡ text.old.items ++ text_of (map (cumulative_line hold.now.positions) hold.now.cumulative)) }
+fn push_all_cumulative(out: &mut Builder, hold: &Hold) -> Result<(), NoMemory>
+    ensures { OnOk result (out.new
+        ≡ out.old ++ text_of (map (cumulative_line hold.now.positions) hold.now.cumulative)) }
 {
     for limit in hold.cumulative() {
-        push_cumulative(alloc, text, hold, limit)?;
+        push_cumulative(out, hold, limit)?;
     }
     Ok(())
 }
 
-fn push_sides(text: &mut Vec<u8>, hold: &Hold, sides: &[(u8, bool)]) -> Result<(), NoMemory>
+fn push_sides(out: &mut Builder, hold: &Hold, sides: &[(u8, bool)]) -> Result<(), NoMemory>
     ensures { OnOk result
-        (text.new.items ≡ text.old.items ++ text_of (map (side_line hold.now.positions) sides.now)) }
+        (out.new ≡ out.old ++ text_of (map (side_line hold.now.positions) sides.now)) }
 {
     for side in sides {
-        push_side(text, hold, *side)?;
+        push_side(out, hold, *side)?;
     }
     Ok(())
 }
 
 /// Appends the lines of the lateral limit, where the hold has one.
-fn push_lateral(alloc: Global, text: &mut Vec<u8>, hold: &Hold) -> Result<(), NoMemory>
-    ensures { OnOk result (text.new.items
-        ≡ text.old.items ++ text_of (lateral_lines hold.now.positions hold.now.lateral)) }
+fn push_lateral(out: &mut Builder, hold: &Hold) -> Result<(), NoMemory>
+    ensures { OnOk result (out.new
+        ≡ out.old ++ text_of (lateral_lines hold.now.positions hold.now.lateral)) }
 {
     let Some(lateral) = hold.lateral() else {
         return Ok(());
     };
-    push_sides(text, hold, lateral.sides.as_slice())?;
-    push_lateral_most(alloc, text, lateral.most)?;
+    push_sides(out, hold, lateral.sides.as_slice())?;
+    push_lateral_most(out, lateral.most)?;
     Ok(())
 }
 
@@ -89,40 +90,35 @@ fn header(hold: &Hold) -> &'static [u8]
     }
 }
 
-fn push_items(alloc: Global, text: &mut Vec<u8>, items: &[Item]) -> Result<(), NoMemory>
+fn push_items(out: &mut Builder, items: &[Item]) -> Result<(), NoMemory>
     ensures written { OnOk result
-        (text.new.items ≡ text.old.items ++ text_of (map item_line items.now)) }
+        (out.new ≡ out.old ++ text_of (map item_line items.now)) }
     ensures identified { OnOk result (All (λ (item : Item). IsUldId item.id) items.now) }
 {
     for item in items {
-        push_item(alloc, text, item)?;
+        push_item(out, item)?;
     }
     Ok(())
 }
 
-fn push_all_loose(
-    alloc: Global,
-    text: &mut Vec<u8>,
-    hold: &Hold,
-    loose: &[Loose],
-) -> Result<(), NoMemory>
+fn push_all_loose(out: &mut Builder, hold: &Hold, loose: &[Loose]) -> Result<(), NoMemory>
     ensures { OnOk result
-        (text.new.items ≡ text.old.items ++ text_of (map (loose_line hold.now.positions) loose.now)) }
+        (out.new ≡ out.old ++ text_of (map (loose_line hold.now.positions) loose.now)) }
 {
     for load in loose {
-        push_loose(alloc, text, hold, load)?;
+        push_loose(out, hold, load)?;
     }
     Ok(())
 }
 
 /// Appends the three lines of the indices.
-fn push_indices(alloc: Global, text: &mut Vec<u8>, task: &Task) -> Result<(), NoMemory>
-    ensures { OnOk result (text.new.items ≡ text.old.items ++ text_of (base_line task.now.base
+fn push_indices(out: &mut Builder, task: &Task) -> Result<(), NoMemory>
+    ensures { OnOk result (out.new ≡ out.old ++ text_of (base_line task.now.base
         ∷ window_line task.now.low task.now.high ∷ ideal_line task.now.ideal_low task.now.ideal_high ∷ [])) }
 {
-    push_index_line(alloc, text, b"base", task.base())?;
-    push_band_line(alloc, text, b"window", task.low(), task.high())?;
-    push_band_line(alloc, text, b"ideal", task.ideal_low(), task.ideal_high())
+    push_index_line(out, b"base", task.base())?;
+    push_band_line(out, b"window", task.low(), task.high())?;
+    push_band_line(out, b"ideal", task.ideal_low(), task.ideal_high())
 }
 
 /// Writes the one text of the task. Read back, it is the same task.
@@ -130,16 +126,16 @@ pub fn write_task(alloc: Global, task: &Task) -> Result<Vec<u8>, NoMemory>
     ensures { IfOk result (λ text. Spells text.items task.now) }
 {
     let hold = task.hold();
-    let mut text = Vec::new(alloc);
-    text.extend_from_slice(header(hold))?;
-    push_positions(alloc, &mut text, hold.positions())?;
-    push_excludes(&mut text, hold)?;
-    push_all_combined(alloc, &mut text, hold)?;
-    push_all_cumulative(alloc, &mut text, hold)?;
-    push_lateral(alloc, &mut text, hold)?;
-    push_items(alloc, &mut text, task.items())?;
-    push_all_loose(alloc, &mut text, hold, task.loose())?;
-    push_indices(alloc, &mut text, task)?;
-    text.extend_from_slice(b"END\n")?;
-    Ok(text)
+    let mut out = Builder::new(alloc);
+    out.text(header(hold))?;
+    push_positions(&mut out, hold.positions())?;
+    push_excludes(&mut out, hold)?;
+    push_all_combined(&mut out, hold)?;
+    push_all_cumulative(&mut out, hold)?;
+    push_lateral(&mut out, hold)?;
+    push_items(&mut out, task.items())?;
+    push_all_loose(&mut out, hold, task.loose())?;
+    push_indices(&mut out, task)?;
+    out.text(b"END\n")?;
+    Ok(out.finish())
 }

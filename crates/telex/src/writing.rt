@@ -1,6 +1,6 @@
 //! Writing a text, piece by piece.
-ghost use Rattle.std.specs.Prelude.{◌≡◌, [], ◌∷◌, ◌++◌, OnOk, OnErr};
-ghost use Rattle.mass_units.specs.Spelling.{number_text, signed_text, index_text, short_index_text};
+ghost use Rattle.std.specs.Prelude.{◌≡◌, ◌<◌, ◌≤◌, [], ◌∷◌, ◌++◌, length, codes, OnOk, OnErr};
+ghost use Rattle.mass_units.specs.Spelling.{number_text, signed_text, index_text, short_index_text, sign_text, with_sign, two_digits, hundredths_text};
 ghost use Rattle.telex.specs.Text.{line_feed, space};
 
 use crate::reading::LINE_FEED;
@@ -9,6 +9,22 @@ use itoa::Buffer;
 use mass_units::{Kg, Ticks, write_number, write_ticks2, write_ticks5};
 use std::alloc::Global;
 use std::marker::Model;
+
+/// The minus of a number below zero.
+fn minus_of(n: i128) -> &'static [u8]
+    ensures value { result.now ≡ sign_text n }
+    ensures short { length result.now ≤ 1 }
+{
+    if n < 0 { b"-" } else { b"" }
+}
+
+/// The point, and a number below 100 as two decimals.
+fn two_decimals(n: u8) -> [u8; 3]
+    requires { n < 100 }
+    ensures { result ≡ codes "." ++ two_digits n }
+{
+    [b'.', b'0' + n / 10, b'0' + n % 10]
+}
 
 /// A text that is being written. A call that runs out of memory leaves it unchanged.
 #[derive(Debug, Drop)]
@@ -73,6 +89,15 @@ impl Builder {
         write_number(self.alloc, n, &mut self.bytes)
     }
 
+    /// Appends a sum of counts or masses, which may be greater than what a type of its parts holds.
+    pub fn sum(&mut self, total: u128) -> Result<(), NoMemory>
+        ensures added { OnOk result (self.new ≡ self.old ++ number_text total) }
+        ensures kept { OnErr result (self.new ≡ self.old) }
+    {
+        let mut buffer = Buffer::new();
+        self.text(buffer.format(total).as_bytes())
+    }
+
     /// Appends a mass in kilograms.
     pub fn mass(&mut self, mass: Kg) -> Result<(), NoMemory>
         ensures added { OnOk result (self.new ≡ self.old ++ number_text mass.0) }
@@ -95,6 +120,22 @@ impl Builder {
         ensures kept { OnErr result (self.new ≡ self.old) }
     {
         write_ticks2(self.alloc, index, &mut self.bytes)
+    }
+
+    /// Appends a number of hundredths with two decimals, as `25.79` for 2579. Zero has no sign.
+    pub fn hundredths(&mut self, n: i128) -> Result<(), NoMemory>
+        ensures added { OnOk result (self.new ≡ self.old ++ with_sign hundredths_text n) }
+        ensures kept { OnErr result (self.new ≡ self.old) }
+    {
+        let size = n.unsigned_abs();
+        let mut buffer = Buffer::new();
+        let whole = buffer.format(size / 100).as_bytes();
+        let decimals = two_decimals((size % 100) as u8);
+        self.bytes.reserve(1 + whole.len() + decimals.len())?;
+        self.bytes.extend_from_slice(minus_of(n))?;
+        self.bytes.extend_from_slice(whole)?;
+        self.bytes.extend_from_slice(&decimals)?;
+        Ok(())
     }
 
     /// Ends the line.

@@ -5,5 +5,5 @@ use Rattle.certificate.specs.CertificateText.{cut_line}
 use Rattle.certificate.proofs.line_writers.push_cuts.Given as goal
 
 abbrev pub invariant-loop-cut : goal.invariant-loop-cut
-invariant-loop-cut l = (l.text.items ≡ l.initial.text.items ++ text_of (map (λ (path : ArrayVec ℕ). cut_line l.hold.positions path.items) (take l.cut-index l.cuts)))
+invariant-loop-cut l = (l.out ≡ l.initial.out ++ text_of (map (λ (path : ArrayVec ℕ). cut_line l.hold.positions path.items) (take l.cut-index l.cuts)))
     × (All (λ (path : ArrayVec ℕ). length path.items ≤ 60) (take l.cut-index l.cuts))

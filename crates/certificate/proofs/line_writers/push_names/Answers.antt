@@ -5,6 +5,6 @@ use Rattle.certificate.proofs.line_writers.push_names.Goals as goal
 
 pub loop-number-preserved : goal.loop-number-preserved
 loop-number-preserved c =
-    run_grows (name_text c.args.hold.now.positions) c.args.numbers.now c.loop-number.number-index 0 c.args.text.now.items c.loop-number.text.items _
+    run_grows (name_text c.args.hold.now.positions) c.args.numbers.now c.loop-number.number-index 0 c.args.out.now c.loop-number.out _
     c.loop-number-test.true c.loop-number.invariant
-    (c.in_ok-push_word.ensures ∙ ap (λ name. c.loop-number.text.items ++ 32 ∷ name) c.name_at.ensures)
+    (c.in_ok-word.ensures.added ∙ ap (λ name. c.loop-number.out ++ 32 ∷ name) c.name_at.ensures)

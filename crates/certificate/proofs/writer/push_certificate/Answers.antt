@@ -5,8 +5,8 @@ use Rattle.certificate.proofs.writer.push_certificate.Goals as goal
 pub returns-clause-written : goal.returns-clause-written
 returns-clause-written c =
     let ps = c.args.task.now.hold.positions in
-    text_built ps c.args.certificate.now c.args.text.now.items c.extend_from_slice.new.self.items c.push_claim.new.text.items c.push_cuts.new.text.items c.push_expanded.new.text.items c.extend_from_slice-2.new.self.items
-    (search rules) (search rules) (search rules) c.in_ok-push_expanded.ensures c.in_ok-extend_from_slice-2.ensures.items
+    text_built ps c.args.certificate.now c.args.out.now c.text.new.self c.push_claim.new.out c.push_cuts.new.out c.push_expanded.new.out c.text-2.new.self
+    (search rules) (search rules) (search rules) c.in_ok-push_expanded.ensures c.in_ok-text-2.ensures.added
 
 pub returns-clause-short_cuts : goal.returns-clause-short_cuts
 returns-clause-short_cuts c = subst (All (λ (cut : List ℕ). length cut ≤ 60)) c.as_slice.ensures c.in_ok-push_cuts.ensures.few

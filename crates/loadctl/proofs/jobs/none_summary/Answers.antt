@@ -9,6 +9,6 @@ pub returns : goal.returns
 returns c =
     let head = load_lines c.args.number in
     let none : List (List _) = codes "NONE" ∷ [] in
-    let with_none = with_lines head none _ _ c.in_ok-text.ensures c.in_ok-extend_from_slice.ensures.items in
-    with_lines (head ++ none) (count_lines c.args.no_plan.now.certificate) _ _ with_none
-    (c.in_ok-push_counts.ensures ∙ ap (λ certificate. c.extend_from_slice.new.self.items ++ text_of (count_lines certificate)) c.certificate.ensures.value)
+    let with_none = with_lines head none _ _ c.in_ok-out.ensures c.in_ok-text.ensures.added in
+    c.finish.ensures ∙ with_lines (head ++ none) (count_lines c.args.no_plan.now.certificate) _ _ with_none
+    (c.in_ok-push_counts.ensures ∙ ap (λ certificate. c.text.new.self ++ text_of (count_lines certificate)) c.certificate.ensures.value)

@@ -13,8 +13,8 @@ returns c = λ path claim.
     let plan : List (List ℕ) = codes "PLAN" ∷ [] in
     let balance = balance_lines (generated_problem c.args.number) path in
     let same : c.path.result.now.items ≡ path = some_same _ _ (sym c.path.ensures.value ∙ claim) in
-    let with_plan = with_lines head plan _ _ c.in_ok-text.ensures c.in_ok-extend_from_slice.ensures.items in
+    let with_plan = with_lines head plan _ _ c.in_ok-out.ensures c.in_ok-text.ensures.added in
     let with_balance = with_lines (head ++ plan) balance _ _ with_plan
-    (c.in_ok-push_balance.ensures ∙ ap₂ (λ t p. c.extend_from_slice.new.self.items ++ text_of (balance_lines t p)) c.requires.made same) in
-    with_lines (head ++ plan ++ balance) (count_lines c.args.proven.now.certificate) _ _ with_balance
-    (c.in_ok-push_counts.ensures ∙ ap (λ certificate. c.push_balance.new.text.items ++ text_of (count_lines certificate)) c.certificate.ensures.value)
+    (c.in_ok-push_balance.ensures ∙ ap₂ (λ t p. c.text.new.self ++ text_of (balance_lines t p)) c.requires.made same) in
+    c.finish.ensures ∙ with_lines (head ++ plan ++ balance) (count_lines c.args.proven.now.certificate) _ _ with_balance
+    (c.in_ok-push_counts.ensures ∙ ap (λ certificate. c.push_balance.new.out ++ text_of (count_lines certificate)) c.certificate.ensures.value)

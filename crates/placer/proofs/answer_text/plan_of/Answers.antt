@@ -7,7 +7,7 @@ pub returns : goal.returns
 returns c =
     let t = c.args.task.now in
     let plan = plan_text t c.path.result.now.items in
-    let with_plan = c.in_ok-push_plan.ensures ∙ ap (λ text. text ++ plan) c.new-text.ensures.items in
+    let with_plan = c.in_ok-push_plan.ensures ∙ ap (λ text. text ++ plan) c.new-out.ensures in
     rw c.path.ensures.value
-    (c.in_ok-push_certificate.ensures.written
+    (c.finish.ensures ∙ c.in_ok-push_certificate.ensures.written
     ∙ ap₂ (λ text certificate. text ++ certificate_text t.hold.positions certificate) with_plan c.certificate.ensures.value)

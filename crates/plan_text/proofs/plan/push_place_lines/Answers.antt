@@ -22,12 +22,12 @@ loop-rank-preserved c =
     let more = place_lines-more t path rank item c.requires c.loop-rank-test.true c.at_rank-item.ensures.value in
     c.in_ok-push_place_line.ensures
     ∙ ap₂ (λ a b. a ++ b) c.loop-rank.invariant line
-    ∙ append_assoc c.args.text.now.items (text_of (place_lines t (take rank (placed t path)))) (text_of (place_line t.hold (item, q) ∷ []))
-    ∙ ap (λ lines. c.args.text.now.items ++ lines) (sym more)
+    ∙ append_assoc c.args.out.now (text_of (place_lines t (take rank (placed t path)))) (text_of (place_line t.hold (item, q) ∷ []))
+    ∙ ap (λ lines. c.args.out.now ++ lines) (sym more)
 
 pub returns : goal.returns
 returns c =
     let t = c.args.task.now in
     let path = c.args.path.now in
     let all : take c.loop-rank.rank (placed t path) ≡ placed t path = take_all c.loop-rank.rank (placed t path) (omega (arith, length-placed t path c.requires)) in
-    c.loop-rank.invariant ∙ ap (λ (ps : List Placed). c.args.text.now.items ++ text_of (place_lines t ps)) all
+    c.loop-rank.invariant ∙ ap (λ (ps : List Placed). c.args.out.now ++ text_of (place_lines t ps)) all

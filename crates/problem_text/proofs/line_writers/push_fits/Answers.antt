@@ -4,5 +4,5 @@ use Rattle.problem_text.proofs.line_writers.push_fits.Goals as goal
 
 pub loop-fit-preserved : goal.loop-fit-preserved
 loop-fit-preserved c =
-    run_grows fit_text c.args.fits.now c.loop-fit.fit-index _ c.args.text.now.items c.loop-fit.text.items _
+    run_grows fit_text c.args.fits.now c.loop-fit.fit-index _ c.args.out.now c.loop-fit.out _
     c.loop-fit-test.true c.loop-fit.invariant c.in_ok-push_fit.ensures

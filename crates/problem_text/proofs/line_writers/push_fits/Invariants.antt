@@ -4,4 +4,4 @@ use Rattle.text_lines.specs.WordRuns.{run_text}
 use Rattle.problem_text.proofs.line_writers.push_fits.Given as goal
 
 abbrev pub invariant-loop-fit : goal.invariant-loop-fit
-invariant-loop-fit l = l.text.items ≡ l.initial.text.items ++ run_text fit_text (take l.fit-index l.fits)
+invariant-loop-fit l = l.out ≡ l.initial.out ++ run_text fit_text (take l.fit-index l.fits)

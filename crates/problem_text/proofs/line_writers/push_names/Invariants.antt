@@ -3,4 +3,4 @@ use Rattle.text_lines.specs.WordRuns.{run_text, name_text}
 use Rattle.problem_text.proofs.line_writers.push_names.Given as goal
 
 abbrev pub invariant-loop-number : goal.invariant-loop-number
-invariant-loop-number l = l.text.items ≡ l.initial.text.items ++ run_text (name_text l.hold.positions) (take l.number-index l.numbers)
+invariant-loop-number l = l.out ≡ l.initial.out ++ run_text (name_text l.hold.positions) (take l.number-index l.numbers)

@@ -4,4 +4,4 @@ use Rattle.text_lines.specs.Lines.{text_of}
 use Rattle.problem_text.proofs.writer.push_all_loose.Given as goal
 
 abbrev pub invariant-loop-load : goal.invariant-loop-load
-invariant-loop-load l = l.text.items ≡ l.initial.text.items ++ text_of (map (loose_line l.hold.positions) (take l.load-index l.loose))
+invariant-loop-load l = l.out ≡ l.initial.out ++ text_of (map (loose_line l.hold.positions) (take l.load-index l.loose))

@@ -4,5 +4,5 @@ use Rattle.problem_text.proofs.writer.push_excludes.Goals as goal
 
 pub loop-pair-preserved : goal.loop-pair-preserved
 loop-pair-preserved c =
-    lines_grow (exclude_line c.args.hold.now.positions) _ c.loop-pair.pair-index _ c.args.text.now.items c.loop-pair.text.items _
+    lines_grow (exclude_line c.args.hold.now.positions) _ c.loop-pair.pair-index _ c.args.out.now c.loop-pair.out _
     c.loop-pair-test.true c.loop-pair.invariant c.in_ok-push_exclude.ensures

@@ -6,5 +6,5 @@ use Rattle.hold_parts.specs.Spellings.{IsUldId}
 use Rattle.problem_text.proofs.writer.push_items.Given as goal
 
 abbrev pub invariant-loop-item : goal.invariant-loop-item
-invariant-loop-item l = (l.text.items ≡ l.initial.text.items ++ text_of (map item_line (take l.item-index l.items)))
+invariant-loop-item l = (l.out ≡ l.initial.out ++ text_of (map item_line (take l.item-index l.items)))
     × (All (λ (q : Item). IsUldId q.id) (take l.item-index l.items))

@@ -6,5 +6,5 @@ use Rattle.problem_text.proofs.writer.push_positions.Goals as goal
 
 pub loop-position-preserved : goal.loop-position-preserved
 loop-position-preserved c =
-    lines_grow_of (λ (q : Position). IsName q.name) position_line c.args.positions.now c.loop-position.position-index c.position-item.result c.args.text.now.items c.loop-position.text.items _
+    lines_grow_of (λ (q : Position). IsName q.name) position_line c.args.positions.now c.loop-position.position-index c.position-item.result c.args.out.now c.loop-position.out _
     c.loop-position-test.true c.position-item.is c.loop-position.invariant c.in_ok-push_position.ensures.written c.in_ok-push_position.ensures.named

@@ -6,5 +6,5 @@ use Rattle.hold_parts.specs.Spellings.{IsName}
 use Rattle.problem_text.proofs.writer.push_positions.Given as goal
 
 abbrev pub invariant-loop-position : goal.invariant-loop-position
-invariant-loop-position l = (l.text.items ≡ l.initial.text.items ++ text_of (map position_line (take l.position-index l.positions)))
+invariant-loop-position l = (l.out ≡ l.initial.out ++ text_of (map position_line (take l.position-index l.positions)))
     × (All (λ (q : Position). IsName q.name) (take l.position-index l.positions))

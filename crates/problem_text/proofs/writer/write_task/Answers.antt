@@ -21,16 +21,16 @@ returns c =
     let loose : List (List ℕ) = map (loose_line ps) t.loose in
     let indices : List (List ℕ) = base_line t.base ∷ window_line t.low t.high ∷ ideal_line t.ideal_low t.ideal_high ∷ [] in
     let last : List (List ℕ) = codes "END" ∷ [] in
-    let e0 : c.extend_from_slice.new.self.items ≡ text_of start = c.in_ok-extend_from_slice.ensures.items ∙ ap (λ t. t ++ c.header.result.now) c.new-text.ensures.items ∙ c.header.ensures ∙ ap (λ (h : Layout). header_line h.lateral ++ 10 ∷ []) c.hold-hold.ensures.value in
-    let e1 = more_lines start positions _ c.push_positions.new.text.items e0 (search rules) in
-    let e2 = more_lines (start ++ positions) excludes _ c.push_excludes.new.text.items e1 (search rules) in
-    let e3 = more_lines (start ++ positions ++ excludes) combined _ c.push_all_combined.new.text.items e2 (search rules) in
-    let e4 = more_lines (start ++ positions ++ excludes ++ combined) cumulative _ c.push_all_cumulative.new.text.items e3 (search rules) in
-    let e5 = more_lines (start ++ positions ++ excludes ++ combined ++ cumulative) lateral _ c.push_lateral.new.text.items e4 (search rules) in
+    let e0 : c.text.new.self ≡ text_of start = c.in_ok-text.ensures.added ∙ ap (λ t. t ++ c.header.result.now) c.new-out.ensures ∙ c.header.ensures ∙ ap (λ (h : Layout). header_line h.lateral ++ 10 ∷ []) c.hold-hold.ensures.value in
+    let e1 = more_lines start positions _ c.push_positions.new.out e0 (search rules) in
+    let e2 = more_lines (start ++ positions) excludes _ c.push_excludes.new.out e1 (search rules) in
+    let e3 = more_lines (start ++ positions ++ excludes) combined _ c.push_all_combined.new.out e2 (search rules) in
+    let e4 = more_lines (start ++ positions ++ excludes ++ combined) cumulative _ c.push_all_cumulative.new.out e3 (search rules) in
+    let e5 = more_lines (start ++ positions ++ excludes ++ combined ++ cumulative) lateral _ c.push_lateral.new.out e4 (search rules) in
     let limits = start ++ positions ++ excludes ++ combined ++ cumulative ++ lateral in
-    let e6 = more_lines limits items _ c.push_items.new.text.items e5 (search rules) in
-    let e7 = more_lines (limits ++ items) loose _ c.push_all_loose.new.text.items e6 (search rules) in
+    let e6 = more_lines limits items _ c.push_items.new.out e5 (search rules) in
+    let e7 = more_lines (limits ++ items) loose _ c.push_all_loose.new.out e6 (search rules) in
     let before = limits ++ items ++ loose in
-    let e8 = more_lines before indices _ c.push_indices.new.text.items e7 c.in_ok-push_indices.ensures in
-    let e9 = more_lines (before ++ indices) last _ c.extend_from_slice-2.new.self.items e8 c.in_ok-extend_from_slice-2.ensures.items in
-    record { is = e9 ∙ ap text_of (append_assoc before indices last); spelled = lawful-spelled t c.hold-hold.ensures.lawful (search rules) (search rules) }
+    let e8 = more_lines before indices _ c.push_indices.new.out e7 c.in_ok-push_indices.ensures in
+    let e9 = more_lines (before ++ indices) last _ c.text-2.new.self e8 c.in_ok-text-2.ensures.added in
+    record { is = c.finish.ensures ∙ e9 ∙ ap text_of (append_assoc before indices last); spelled = lawful-spelled t c.hold-hold.ensures.lawful (search rules) (search rules) }
