@@ -116,7 +116,7 @@ or-false : (a : Bool) → (a || false) ≡ a
 or-false true = refl
 or-false false = refl
 
-falls-next_other : (t : Problem) (prefix : List ℕ) (item other : Item) (q a : ℕ) → slice_get (ordered t.items) (length prefix) ≡ Some item → (AreTwins item other → ⊥)
+pub falls-next_other : (t : Problem) (prefix : List ℕ) (item other : Item) (q a : ℕ) → slice_get (ordered t.items) (length prefix) ≡ Some item → (AreTwins item other → ⊥)
     → falls t (prefix ++ q ∷ []) other a ≡ falls t prefix other a
 falls-next_other t prefix item other q a next apart =
     falls-next t prefix item other q a next

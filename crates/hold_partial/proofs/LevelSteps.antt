@@ -66,7 +66,7 @@ shuffle false true false d = refl
 shuffle false false true d = refl
 shuffle false false false d = refl
 
-is_blocked-next : (hold : Layout) (prefix : List ℕ) (q a : ℕ) → is_blocked hold (prefix ++ q ∷ []) a ≡ (is_blocked hold prefix a || ((q == a) || exclude hold q a))
+pub is_blocked-next : (hold : Layout) (prefix : List ℕ) (q a : ℕ) → is_blocked hold (prefix ++ q ∷ []) a ≡ (is_blocked hold prefix a || ((q == a) || exclude hold q a))
 is_blocked-next hold prefix q a =
     ap₂ ◌||◌ (list_any-append (λ used. used == a) prefix (q ∷ []) ∙ or-false (is_used prefix a) (q == a))
     (list_any-append (λ used. exclude hold used a) prefix (q ∷ []) ∙ or-false (list_any (λ used. exclude hold used a) prefix) (exclude hold q a))
@@ -137,7 +137,7 @@ level-start t ranks level used taken index lateral rising = record {
 
 -- Free and open ranks ---------------------------------------------------------------------------
 
-free-by : (accepts used excluded : Bool) → (accepts && not (used || excluded)) ≡ (accepts && (not used && not excluded))
+pub free-by : (accepts used excluded : Bool) → (accepts && not (used || excluded)) ≡ (accepts && (not used && not excluded))
 free-by false used excluded = refl
 free-by true true excluded = refl
 free-by true false excluded = refl

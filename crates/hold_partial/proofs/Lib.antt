@@ -10,3 +10,4 @@ pub mod LevelSteps
 pub mod ClosedLemmas
 pub mod SideLemmas
 pub mod KeptLemmas
+pub mod AheadLemmas

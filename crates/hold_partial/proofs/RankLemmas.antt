@@ -77,7 +77,7 @@ greatest-order = record {
 }
 
 -- the number is one of the list
-abbrev In : List ℕ → ℕ → Type 0
+abbrev pub In : List ℕ → ℕ → Type 0
 In ns q = list_any (λ k. k == q) ns ≡ true
 
 or-left : (a b : Bool) → a ≡ true → (a || b) ≡ true
@@ -90,7 +90,7 @@ or-right false b is = is
 self-in : (n : ℕ) → (n == n) ≡ true
 self-in n = grind (arith, nat_tests)
 
-in-filter : (p : ℕ → Bool) (ns : List ℕ) (q : ℕ) → In ns q → p q ≡ true → In (filter p ns) q
+pub in-filter : (p : ℕ → Bool) (ns : List ℕ) (q : ℕ) → In ns q → p q ≡ true → In (filter p ns) q
 in-filter p [] q is passes = is
 in-filter p (n ∷ ns) q is passes = ⊎_elim
     (λ (here : (n == q) ≡ true).
@@ -104,7 +104,7 @@ in-filter p (n ∷ ns) q is passes = ⊎_elim
     kept true n rest q is = or-right (n == q) (list_any (λ k. k == q) rest) is
     kept false n rest q is = is
 
-in-range : (n q : ℕ) → q < n → In (range_with_len 0 n) q
+pub in-range : (n q : ℕ) → q < n → In (range_with_len 0 n) q
 in-range zero q less = absurd (omega arith)
 in-range (suc n) q less =
     let more : range_with_len 0 (suc n) ≡ range_with_len 0 n ++ n ∷ [] = ap (range_with_len 0) (sym (add-one n)) ∙ range-more n in
@@ -119,7 +119,7 @@ in-range (suc n) q less =
     below n q less differ = grind (arith, nat_tests)
 
 -- what the filter keeps passes
-each-passes : (p : ℕ → Bool) (ns : List ℕ) → AllByRecursion (λ q. p q ≡ true) (filter p ns)
+pub each-passes : (p : ℕ → Bool) (ns : List ℕ) → AllByRecursion (λ q. p q ≡ true) (filter p ns)
 each-passes p [] = tt
 each-passes p (n ∷ ns) = ⊎_elim
     (λ (passes : p n ≡ true). rw passes (passes, each-passes p ns))
@@ -153,7 +153,7 @@ end-is before pick order f q k qs is each =
     (cases_Bool (k == q)) in
     order.same _ _ to (fold-bound before pick order f (f q) (f k) qs each.0 each.1)
 
-least-and-greatest : (f : ℕ → ℤ) (first last : ℕ) (qs : List ℕ) → In qs first → In qs last → AllByRecursion (λ q. (f first ≤ℤ f q) × (f q ≤ℤ f last)) qs
+pub least-and-greatest : (f : ℕ → ℤ) (first last : ℕ) (qs : List ℕ) → In qs first → In qs last → AllByRecursion (λ q. (f first ≤ℤ f q) × (f q ≤ℤ f last)) qs
     → (map f qs ≢ []) × (f first ≡ least (map f qs)) × (f last ≡ greatest (map f qs))
 least-and-greatest f first last [] in_first in_last each = absurd (false≢true in_first)
 least-and-greatest f first last (q ∷ qs) in_first in_last each = (
@@ -179,7 +179,7 @@ neg-order (suc n) zero less = omega (arith, ints)
 neg-order (suc n) (suc k) less = omega (arith, ints)
 
 -- the same mass has the greater moment at the greater influence
-moment-order : (mass : ℕ) (a b : ℤ) → a ≤ℤ b → (pos mass *ℤ a) ≤ℤ (pos mass *ℤ b)
+pub moment-order : (mass : ℕ) (a b : ℤ) → a ≤ℤ b → (pos mass *ℤ a) ≤ℤ (pos mass *ℤ b)
 moment-order mass (pos x) (pos y) less =
     let close : x ≤ y = omega (arith, ints) in
     let product : mass * x ≤ mass * y = mul-le-mul_left mass close in
@@ -192,7 +192,7 @@ moment-order mass (negsuc x) (negsuc y) less =
 
 -- Ranks -----------------------------------------------------------------------------------------
 
-rank-of : (hold : Layout) (ranks : List Ranked) → IsByInfluence hold ranks → (q : ℕ) → q < length hold.positions → (r : ℕ) × (r < length ranks) × (slice_get ranks r ≡ Some (ranked_of hold q))
+pub rank-of : (hold : Layout) (ranks : List Ranked) → IsByInfluence hold ranks → (q : ℕ) → q < length hold.positions → (r : ℕ) × (r < length ranks) × (slice_get ranks r ≡ Some (ranked_of hold q))
 rank-of hold ranks arranged q below =
     let at = at_from_Contains ranks (ranked_of hold q) (arranged.every q below) in
     (at.0, at.1, slice_get-get_or ranks at.0 (ranked_of hold q) at.1 ∙ ap (λ (e : Ranked). Some e) (at.2 (ranked_of hold q)))

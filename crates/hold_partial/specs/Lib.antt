@@ -5,3 +5,4 @@ pub mod Arrangement
 pub mod Tables
 pub mod Levels
 pub mod Kept
+pub mod Ahead

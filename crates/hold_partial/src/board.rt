@@ -1,19 +1,21 @@
 //! What is kept of a sound prefix of a task, which changes little with one container more or fewer.
 
-ghost use Rattle.std.specs.Prelude.{◌≡◌, ◌↔◌, ◌<◌, ◌≤◌, ◌++◌, ◌∷◌, [], ℕ, List, unsigned_abs, Some, IfSome, IsTrue, length, slice_get, option_map};
+ghost use Rattle.std.specs.Prelude.{◌≡◌, ◌↔◌, ◌<◌, ◌≤◌, ◌+ℤ◌, ◌-ℤ◌, ◌++◌, ◌∷◌, [], ℕ, List, unsigned_abs, Some, None, true, false, IfSome, IsTrue, length, slice_get, option_map};
 ghost use Rattle.hold_parts.specs.declared.parts.Item.{Item};
 ghost use Rattle.hold_limits.specs.BranchOrder.{ordered};
 ghost use Rattle.hold_limits.specs.Faults.{IsLawful};
-ghost use Rattle.hold_limits.specs.Placement.{IsSound};
+ghost use Rattle.hold_limits.specs.Placement.{IsSound, hold_index};
 ghost use Rattle.hold_limits.specs.Twins.{IsRising};
 ghost use Rattle.hold_reach.specs.Extents.{may_stand, amount_of, so_far, reached, IsBounded, IsSpanOfList};
 ghost use Rattle.hold_reach.specs.Reach.{falls, is_open, amounts, lateral_reach, MeetsLateral};
 ghost use Rattle.hold_reach.specs.Rules.{rule_broken};
+ghost use Rattle.hold_partial.specs.Ahead.{AreExtremes, IsAhead, Spares};
 ghost use Rattle.hold_partial.specs.Kept.{IsKept};
 ghost use Rattle.hold_partial.specs.Arrangement.{Ranked, at_rank};
 ghost use Rattle.hold_partial.specs.Levels.{IsLevel};
-ghost use Rattle.hold_partial.specs.Sets.{Stands};
+ghost use Rattle.hold_partial.specs.Sets.{has, Stands};
 
+use crate::ahead::{Ahead, Extremes};
 use crate::closed::Closed;
 use crate::level::Level;
 use crate::limit_table::{LimitMasses, loose_masses, rule_of};
@@ -246,5 +248,93 @@ impl<'a> Board<'a> {
             Some(span) => meets_lateral_limit(hold, span),
             None => false,
         }
+    }
+
+    /// The open positions where the container of a rank of branch order has its least and greatest moments. None where no
+    /// position is open for it.
+    fn extremes_of(&self, item: usize) -> Option<Extremes>
+        requires kept { IsKept self.now }
+        requires known { item < length self.now.task.now.items }
+        ensures { (container : Item) → slice_get (ordered self.now.task.now.items) item ≡ Some container
+            → IfSome result (AreExtremes self.now.task.now self.now.prefix.items container) }
+    {
+        let places = self.places_for(Extent::Reach, item);
+        let first = places.first()?;
+        let last = places.last()?;
+        let mass = self.tables.demands[item].mass;
+        Some(Extremes {
+            first: self.tables.number_at(first),
+            last: self.tables.number_at(last),
+            span: self.tables.span_between(mass, first, last),
+        })
+    }
+
+    /// What is ahead of the prefix while nothing is known of the containers after the next one.
+    fn ahead_of_next(&self) -> Ahead
+        requires kept { IsKept self.now }
+        requires short { length self.now.prefix.items < length self.now.task.now.items }
+        ensures candidates { (q : ℕ) → IsSound self.now.task.now (self.now.prefix.items ++ q ∷ [])
+            → has result.candidates q ≡ true }
+        ensures ends { (q : ℕ) → has result.ends q ≡ false }
+        ensures low { result.reach.low ≡ hold_index self.now.task.now self.now.prefix.items }
+        ensures high { result.reach.high ≡ hold_index self.now.task.now self.now.prefix.items }
+    {
+        let next = self.prefix.len();
+        Ahead {
+            candidates: self.tables.demands[next]
+                .accepting
+                .difference(self.levels[next].used),
+            ends: PositionSet::empty(),
+            reach: Span::at(self.start_of(Extent::Reach)),
+        }
+    }
+
+    /// What is ahead of the prefix. None where a container after the next one has no open position, or is a twin of the
+    /// next one, which closes positions to its twins wherever it stands.
+    pub fn ahead(&self) -> Option<Ahead>
+        requires kept { IsKept self.now }
+        requires short { length self.now.prefix.items < length self.now.task.now.items }
+        ensures { IfSome result (IsAhead self.now.task.now self.now.prefix.items) }
+    {
+        let next = self.prefix.len();
+        let class = self.tables.demands[next].twins;
+        let mut ahead = self.ahead_of_next();
+        for item in next + 1..self.tables.demands.len() {
+            if self.tables.demands[item].twins == class {
+                return None;
+            }
+            ahead = ahead.with(self.extremes_of(item)?);
+        }
+        Some(ahead)
+    }
+
+    /// Whether the next container on the position leaves the reach ahead as it is, and the hold has no lateral limit.
+    pub fn spares(&self, ahead: &Ahead, position: u8) -> bool
+        requires kept { IsKept self.now }
+        requires known { position < length self.now.task.now.hold.positions }
+        requires ahead { IsAhead self.now.task.now self.now.prefix.items ahead.now }
+        ensures spared { IsTrue result → Spares self.now.task.now.hold ahead.now.ends position }
+        ensures unlimited { IsTrue result → self.now.task.now.hold.lateral ≡ None }
+    {
+        let excluding = self.tables.positions[position as usize].excluding;
+        self.task.hold().lateral().is_none()
+            && !ahead.ends.contains(position)
+            && ahead.ends.intersection(excluding).is_empty()
+    }
+
+    /// The reach ahead with the next container on the position.
+    pub fn span_ahead(&self, ahead: &Ahead, position: u8) -> Span
+        requires kept { IsKept self.now }
+        requires sound { IsSound self.now.task.now (self.now.prefix.items ++ position ∷ []) }
+        requires ahead { IsAhead self.now.task.now self.now.prefix.items ahead.now }
+        ensures low { result.low ≡ (ahead.now.reach.low -ℤ hold_index self.now.task.now self.now.prefix.items)
+            +ℤ hold_index self.now.task.now (self.now.prefix.items ++ position ∷ []) }
+        ensures high { result.high ≡ (ahead.now.reach.high -ℤ hold_index self.now.task.now self.now.prefix.items)
+            +ℤ hold_index self.now.task.now (self.now.prefix.items ++ position ∷ []) }
+        ensures bounded { IsBounded 900000000000 result }
+    {
+        let mass = self.tables.demands[self.prefix.len()].mass;
+        let moment = self.tables.positions[position as usize].moment(mass);
+        ahead.reach.plus(Span::at(moment))
     }
 }

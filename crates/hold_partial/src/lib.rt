@@ -2,6 +2,7 @@
 //! index and its lateral difference can still reach, and how near the ideal it can still come.
 #![tactic(auto)]
 
+mod ahead;
 mod arrangement;
 mod board;
 mod closed;
@@ -16,8 +17,9 @@ mod position_table;
 mod sides;
 mod tables;
 
+pub use ahead::Ahead;
 pub use hold_reach::{RuleBroken, reach_laws};
-pub use moves::{advances, keep_first, move_to};
+pub use moves::{advances, keep_first, move_to, next_bound};
 pub use partial::Partial;
 
 #[cfg(test)]

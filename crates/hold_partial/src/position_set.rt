@@ -1,6 +1,6 @@
 //! Sets of positions. A hold has at most 64, so that a set of them fits one machine word.
 
-ghost use Rattle.std.specs.Prelude.{◌≡◌, ◌<◌, ◌≤◌, ◌&&◌, ◌||◌, ◌==◌, ℕ, not, true, false, MatchOption};
+ghost use Rattle.std.specs.Prelude.{◌≡◌, ◌<◌, ◌≤◌, ◌&&◌, ◌||◌, ◌==◌, ℕ, not, true, false, IsTrue, MatchOption};
 ghost use Rattle.hold_partial.specs.Sets.{has};
 
 /// A set of numbers below 64.
@@ -58,6 +58,13 @@ impl PositionSet {
         ensures { (q : ℕ) → has result q ≡ (has self q && not (has other q)) }
     {
         PositionSet(self.0 & !other.0)
+    }
+
+    /// Whether there is no number.
+    pub fn is_empty(self) -> bool
+        ensures { IsTrue result → (q : ℕ) → has self q ≡ false }
+    {
+        self.first().is_none()
     }
 
     /// The least number of the set.

@@ -1,6 +1,8 @@
 //! What is looked up of a task while its containers are placed.
 
-ghost use Rattle.std.specs.Prelude.{◌≡◌, ◌<◌, ◌≤ℤ◌, ◌*ℤ◌, ℕ, pos, true, false, length, MatchOption};
+ghost use Rattle.std.specs.Prelude.{◌≡◌, ◌<◌, ◌≤ℤ◌, ◌*ℤ◌, ℕ, pos, true, false, length, slice_index_or, MatchOption};
+ghost use Rattle.hold_reach.specs.declared.extent.Extent.TheVariants.{Reach};
+ghost use Rattle.hold_partial.specs.Arrangement.{Ranked};
 ghost use Rattle.hold_partial.specs.Kept.{AreLimitLists};
 ghost use Rattle.hold_partial.specs.Levels.{IsSpanOnRanks};
 ghost use Rattle.hold_partial.specs.Sets.{has};
@@ -71,6 +73,28 @@ impl Tables {
         ensures { result ≡ pos mass.0 *ℤ factor_of extent self.now rank }
     {
         i64::from(mass.0) * i64::from(self.factor_at(extent, rank))
+    }
+
+    /// The number of the position of a rank.
+    pub fn number_at(&self, rank: u8) -> u8
+        requires { rank < length self.now.ranks.items }
+        ensures { (d : Ranked) → result ≡ (slice_index_or self.now.ranks.items rank d).1 }
+    {
+        self.ranks[rank as usize].1
+    }
+
+    /// The span from the moment of a mass on the position of a rank to that on another.
+    pub fn span_between(&self, mass: Kg, first: u8, last: u8) -> Span
+        requires few { (first < 64) × (last < 64) }
+        requires first_known { first < length self.now.ranks.items }
+        requires last_known { last < length self.now.ranks.items }
+        ensures low { result.low ≡ pos mass.0 *ℤ factor_of Reach self.now first }
+        ensures high { result.high ≡ pos mass.0 *ℤ factor_of Reach self.now last }
+    {
+        Span {
+            low: self.amount_at(Extent::Reach, mass, first),
+            high: self.amount_at(Extent::Reach, mass, last),
+        }
     }
 
     /// Of some ranks one with the least factor.
