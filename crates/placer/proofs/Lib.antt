@@ -4,3 +4,4 @@ pub mod GoodLemmas
 pub mod NearLemmas
 pub mod QueueLemmas
 pub mod SearchLemmas
+pub mod LentLemmas

@@ -11,6 +11,7 @@ ghost use Rattle.std.specs.Ordering.{nat_cmp};
 ghost use Rattle.std.specs.Cmp.Lexicographic.{slice_cmp};
 ghost use Rattle.std.specs.Result.{OnOk};
 ghost use Rattle.hold_limits.specs.Placement.{IsAtMost, IsSound};
+ghost use Rattle.hold_partial.specs.Ahead.{IsAhead};
 ghost use Rattle.hold_partial.specs.Placing.{placing_of};
 ghost use Rattle.hold_reach.specs.Reach.{IsViable};
 ghost use Rattle.certificate.specs.Evidence.{claimed};
@@ -24,7 +25,7 @@ use crate::queue::{Queue, Waiting};
 use certificate::{Certificate, Claim, Cuts};
 use desk_base::NoMemory;
 use hold_limits::{Path, Task};
-use hold_partial::{Partial, advances, move_to};
+use hold_partial::{Ahead, Partial, move_to, next_bound};
 use std::alloc::Global;
 
 fn path_of(prefix: &[u8]) -> Path
@@ -61,22 +62,31 @@ fn go_to(partial: &mut Partial<'_>, prefix: &[u8])
     }
 }
 
+/// The numbers with one more.
+fn longer(prefix: &[u8], number: u8) -> Path
+    requires { length prefix.now < 60 }
+    ensures { result.items ≡ prefix.now ++ number ∷ [] }
+{
+    let mut path = path_of(prefix);
+    path.push(number);
+    path
+}
+
 /// The prefix with one more number, where that is viable.
-fn child(partial: &mut Partial<'_>, number: u8) -> Option<Waiting>
+fn child(partial: &mut Partial<'_>, ahead: Option<&Ahead>, number: u8) -> Option<Waiting>
     requires left { length partial.old.prefix < length partial.old.task.items }
     requires few { length partial.old.task.items ≤ 60 }
+    requires known { number < length partial.old.task.hold.positions }
+    requires ahead { IfSome ahead (λ a. IsAhead partial.old.task partial.old.prefix a.now) }
     ensures same { partial.new ≡ partial.old }
     ensures prefix { IfSome result (λ w. w.prefix.items ≡ partial.old.prefix ++ number ∷ []) }
     ensures viable { IfSome result (λ w. IsPrefix partial.old.task (key_of w)) }
     ensures none { IfNone result
         (IsViable partial.old.task (partial.old.prefix ++ number ∷ []) → ⊥) }
 {
-    if !advances(partial, number) {
-        return None;
-    }
-    let waiting = waiting(partial);
-    partial.undo();
-    waiting
+    let bound = next_bound(partial, ahead, number)?;
+    let prefix = longer(partial.prefix(), number);
+    Some(Waiting { bound, prefix })
 }
 
 /// Adds the viable prefixes that are this one with a number more.
@@ -86,8 +96,9 @@ fn add_children(partial: &mut Partial<'_>, queue: &mut Queue) -> Result<(), NoMe
     ensures added { OnOk result (AddsChildren partial.old.task partial.old.prefix
         (length partial.old.task.hold.positions) queue.old queue.new) }
 {
+    let ahead = partial.ahead();
     for number in 0..partial.task().hold().position_count() {
-        if let Some(waiting) = child(partial, number) {
+        if let Some(waiting) = child(partial, ahead.as_ref(), number) {
             queue.add(waiting)?;
         }
     }

@@ -1,8 +1,11 @@
 use Rattle.std.proofs.Common.{◌≡◌, ◌⊎◌, ◌+◌, [], ◌∷◌, ◌++◌, refl, sym, subst, ◌∙◌, IsPermutation}
+use Rattle.std.specs.Prelude.{IfSome}
+use Rattle.hold_partial.specs.Ahead.{IsAhead}
 use Rattle.hold_partial.specs.Placing.{Placing}
 use Rattle.hold_reach.specs.Reach.{IsViable}
 use Rattle.placer.specs.Keys.{key_of}
 use Rattle.placer.specs.Search.{IsPrefix, AddsChildren}
+use Rattle.placer.proofs.LentLemmas.{of_lent}
 use Rattle.placer.proofs.SearchLemmas.{AddsChildren-none, AddsChildren-passed, AddsChildren-added}
 use Rattle.placer.proofs.best_first.add_children.Goals as goal
 use Rattle.placer.proofs.best_first.add_children.Goals.{in-Some+in_ok-add, in_default}
@@ -12,6 +15,10 @@ loop-number-init c = record {
   same = refl;
   added = AddsChildren-none c.args.partial.now.task c.args.partial.now.prefix c.args.queue.now;
 }
+
+pub child-requires-clause-ahead : goal.child-requires-clause-ahead
+child-requires-clause-ahead c = of_lent (IsAhead c.loop-number.partial.task c.loop-number.partial.prefix) c.as_ref.result _ c.as_ref.ensures.value
+    (subst (λ (p : Placing). IfSome c.ahead-ahead.result (IsAhead p.task p.prefix)) (sym c.loop-number.invariant.same) c.ahead-ahead.ensures)
 
 pub loop-number-preserved : goal.loop-number-preserved
 loop-number-preserved c =
