@@ -58,6 +58,13 @@ exclude-back hold a b = each hold.excludes
     each [] = refl
     each (pair ∷ pairs) = ap₂ ◌||◌ (or-back ((pair.0 == a) && (pair.1 == b)) ((pair.0 == b) && (pair.1 == a))) (each pairs)
 
+eq-back : (a b : ℕ) → (a == b) ≡ (b == a)
+eq-back a b = grind (arith, nat_tests)
+
+-- a container blocks its own position and those that exclude it
+pub blocked-by : (hold : Layout) (a q : ℕ) → (exclude hold a q || (a == q)) ≡ ((q == a) || exclude hold q a)
+blocked-by hold a q = or-back (exclude hold a q) (a == q) ∙ ap₂ ◌||◌ (eq-back a q) (exclude-back hold a q)
+
 turned : (accepts blocked more closed : Bool) → ((accepts && not (blocked || more)) && not closed) ≡ (((accepts && not blocked) && not closed) && not more)
 turned false blocked more closed = refl
 turned true true more closed = refl

@@ -66,24 +66,6 @@ fn excluding_positions(hold: &Hold, number: u8) -> PositionSet
     set
 }
 
-fn blocks(hold: &Hold, number: u8, other: u8) -> bool
-    ensures { result ≡ ((number == other) || exclude hold.now number other) }
-{
-    number == other || hold.exclude_each_other(number, other)
-}
-
-fn blocked_positions(hold: &Hold, number: u8) -> PositionSet
-    ensures value { Stands result (λ a. nat_lt a (length hold.now.positions)
-        && ((number == a) || exclude hold.now number a)) }
-    ensures lawful { IsLawfulHold hold.now }
-{
-    let mut set = PositionSet::empty();
-    for other in 0..hold.position_count() {
-        set = set.with_if(other, blocks(hold, number, other));
-    }
-    set
-}
-
 fn closed_positions(hold: &Hold, number: u8) -> PositionSet
     ensures value { Stands result (λ a. nat_lt a (length hold.now.positions) && nat_le a number) }
     ensures lawful { IsLawfulHold hold.now }
@@ -115,12 +97,13 @@ fn entry_of(hold: &Hold, ranks: &[Ranked], number: u8) -> PositionEntry
     requires known { number < length hold.now.positions }
     ensures { IsPositionEntry hold.now ranks.now number result }
 {
+    let excluding = excluding_positions(hold, number);
     PositionEntry {
         influence: hold.influence_at(number),
         side: hold.side_at(number),
         rank: rank_of(hold, ranks, number),
-        excluding: excluding_positions(hold, number),
-        blocked_ranks: ranks_of(blocked_positions(hold, number), ranks),
+        excluding,
+        blocked_ranks: ranks_of(excluding.with(number), ranks),
         closed_ranks: ranks_of(closed_positions(hold, number), ranks),
     }
 }

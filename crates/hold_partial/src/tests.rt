@@ -1,9 +1,10 @@
 // Small tasks with twins, sides, excluding pairs and limits that are met exactly: the partial placement beside the plain
 // programs, at every prefix.
-ghost use Rattle.std.specs.Prelude.{◌≤◌, ◌≡◌, All, IfOk, length};
+ghost use Rattle.std.specs.Prelude.{◌<◌, ◌≤◌, ◌≡◌, All, IfOk, length};
 ghost use Rattle.hold_parts.specs.declared.lists.Fit.{Fit};
 ghost use Rattle.hold_parts.specs.Spellings.{IsKind};
 
+use crate::moves::next_bound;
 use crate::partial::Partial;
 use hold_limits::{
     Combined, Cumulative, Fit, Hold, Item, Lateral, Loose, Name, Position, Task, UldId,
@@ -259,6 +260,22 @@ fn falls_agree(partial: &Partial<'_>) -> bool {
     true
 }
 
+// What is ahead tells the bound that the longer prefix has.
+fn next_agrees(partial: &mut Partial<'_>, number: u8) -> bool
+    requires { length partial.old.prefix < length partial.old.task.items }
+    ensures { partial.new ≡ partial.old }
+{
+    if number >= partial.task().hold().position_count() {
+        return true;
+    }
+    match partial.ahead() {
+        Some(ahead) => {
+            next_bound(partial, Some(&ahead), number) == next_bound(partial, None, number)
+        }
+        None => true,
+    }
+}
+
 fn agrees(partial: &Partial<'_>) -> bool {
     reaches_agree(partial)
         && viable_agrees(partial)
@@ -278,6 +295,7 @@ fn a_partial_placement_agrees_with_the_plain_programs(rt: HostRuntime) -> Result
                     let numbers = [(paths / 36) as u8, (paths / 6 % 6) as u8, (paths % 6) as u8];
                     for number in numbers {
                         if partial.prefix().len() < partial.task().items().len() {
+                            assert!(rt; next_agrees(&mut partial, number), "at {}", case.name);
                             let want = broken_rule(partial.task(), partial.prefix(), number);
                             assert_eq!(rt;
                                 partial.try_place(number).err(),
