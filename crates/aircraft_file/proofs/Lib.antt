@@ -7,6 +7,5 @@ pub mod AnswerLemmas
 pub mod MadeLemmas
 pub mod HoldLemmas
 pub mod SideLemmas
-pub mod NameLemmas
 pub mod KeyLemmas
 pub mod ValueLemmas

@@ -1,5 +1,5 @@
 -- the forms of a value, and what a value in each form says
-use Rattle.std.specs.Prelude.{ℕ, nat_le, min, ◌&&◌, Bool, true, false, if◌then◌else◌, List, [], ◌∷◌, ℤ, pos, int_le, unsigned_abs, bytes_eq, codes, position, Option, Some, None, option_map, option_and_then}
+use Rattle.std.specs.Prelude.{ℕ, nat_le, min, ◌&&◌, Bool, true, false, if◌then◌else◌, List, [], ◌∷◌, ℤ, pos, int_le, unsigned_abs, codes, position, Option, Some, None, option_map, option_and_then}
 use Rattle.toml.specs.Data.{Data, Items, no_items, item, Members, as_integer, as_str, as_bool, as_array, as_table, get_member}
 use Rattle.mass_units.specs.declared.Kg.{Kg}
 use Rattle.mass_units.specs.declared.Ticks.{Ticks}
@@ -10,6 +10,7 @@ use Rattle.hold_parts.specs.declared.lists.Fit.{Fit}
 use Rattle.hold_parts.specs.declared.parts.Position.{Position}
 use Rattle.hold_parts.specs.declared.parts.Combined.{Combined}
 use Rattle.hold_parts.specs.declared.parts.Cumulative.{Cumulative}
+use Rattle.hold_parts.specs.Names.{number_named}
 use Rattle.aircraft_file.specs.declared.position_form.Head.{Head}
 use Rattle.aircraft_file.specs.declared.side_keys.NamedSide.{NamedSide}
 use Rattle.aircraft_file.specs.Spellings.{spelled, is_name, is_kind, index_spelled}
@@ -147,10 +148,6 @@ position_of d = do
   head ← head_of table
   fits ← fits_of head.bulk (get_member (codes "fits") table)
   Some (record { name = head.name; compartment = head.compartment; influence = head.influence; bulk = head.bulk; fits = fits })
-
--- the number of the first position with the name
-unfoldable pub number_named : List Position → List ℕ → Option ℕ
-number_named positions name = position (λ (p : Position). bytes_eq p.name name) positions
 
 -- the number of the position that a text names, and 255 for each beyond that: a hold with so many positions is refused for having too many
 abbrev pub named_position : List Position → Data → Option ℕ

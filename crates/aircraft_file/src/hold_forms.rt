@@ -7,17 +7,17 @@ ghost use Rattle.aircraft_file.specs.Forms.{combined, cumulative, exclude, named
 ghost use Rattle.aircraft_file.specs.Lawful.{IsMass};
 
 use crate::forms::{Form, read_each};
-use crate::names::Names;
 use crate::side_keys::NamedSide;
 use crate::values::{read_first_and_more, read_mass, read_pair};
 use desk_base::NoMemory;
 use hold_limits::{Combined, Cumulative, Places};
+use hold_parts::PositionNames;
 use std::alloc::Global;
 use toml::Value;
 
 /// The number of the named position. A number over 255 is read as 255: a hold with so many positions is
 /// refused for having too many, whatever its limits say.
-fn read_position_number(names: &Names<'_>, value: &Value) -> Option<u8>
+fn read_position_number(names: &PositionNames<'_>, value: &Value) -> Option<u8>
     ensures { result ≡ named_position names.now.positions.now (view value.now) }
 {
     let number = names.number_of(value.as_str()?.as_bytes())?;
@@ -27,7 +27,7 @@ fn read_position_number(names: &Names<'_>, value: &Value) -> Option<u8>
 /// The form of a position's name.
 #[derive(Drop)]
 struct NameForm<'a, 'b> {
-    names: &'a Names<'b>,
+    names: &'a PositionNames<'b>,
 }
 
 impl<'a, 'b> Form for NameForm<'a, 'b> {
@@ -48,7 +48,7 @@ impl<'a, 'b> Form for NameForm<'a, 'b> {
 #[derive(Drop)]
 pub struct SideForm<'a, 'b> {
     pub right: bool,
-    pub names: &'a Names<'b>,
+    pub names: &'a PositionNames<'b>,
 }
 
 impl<'a, 'b> Form for SideForm<'a, 'b> {
@@ -65,7 +65,7 @@ impl<'a, 'b> Form for SideForm<'a, 'b> {
     }
 }
 
-fn read_named_side(right: bool, names: &Names<'_>, value: &Value) -> Option<NamedSide>
+fn read_named_side(right: bool, names: &PositionNames<'_>, value: &Value) -> Option<NamedSide>
     ensures { result ≡ named_side right names.now.positions.now (view value.now) }
 {
     let number = names.number_of(value.as_str()?.as_bytes())?;
@@ -75,7 +75,7 @@ fn read_named_side(right: bool, names: &Names<'_>, value: &Value) -> Option<Name
 /// The form `[name, name]` of an excluding pair.
 #[derive(Drop)]
 pub struct ExcludeForm<'a, 'b> {
-    pub names: &'a Names<'b>,
+    pub names: &'a PositionNames<'b>,
 }
 
 impl<'a, 'b> Form for ExcludeForm<'a, 'b> {
@@ -92,7 +92,7 @@ impl<'a, 'b> Form for ExcludeForm<'a, 'b> {
     }
 }
 
-fn read_exclude(names: &Names<'_>, value: &Value) -> Option<(u8, u8)>
+fn read_exclude(names: &PositionNames<'_>, value: &Value) -> Option<(u8, u8)>
     ensures { result ≡ exclude names.now.positions.now (view value.now) }
 {
     let (one, other) = read_pair(value)?;
@@ -105,7 +105,7 @@ fn read_exclude(names: &Names<'_>, value: &Value) -> Option<(u8, u8)>
 /// The form `[most, name, ..]` of a combined limit.
 #[derive(Drop)]
 pub struct CombinedForm<'a, 'b> {
-    pub names: &'a Names<'b>,
+    pub names: &'a PositionNames<'b>,
 }
 
 impl<'a, 'b> Form for CombinedForm<'a, 'b> {
@@ -140,7 +140,7 @@ impl<'a, 'b> Form for CombinedForm<'a, 'b> {
 #[derive(Drop)]
 pub struct CumulativeForm<'a, 'b> {
     pub forward: bool,
-    pub names: &'a Names<'b>,
+    pub names: &'a PositionNames<'b>,
 }
 
 impl<'a, 'b> Form for CumulativeForm<'a, 'b> {
@@ -158,7 +158,7 @@ impl<'a, 'b> Form for CumulativeForm<'a, 'b> {
     }
 }
 
-fn read_cumulative(forward: bool, names: &Names<'_>, value: &Value) -> Option<Cumulative>
+fn read_cumulative(forward: bool, names: &PositionNames<'_>, value: &Value) -> Option<Cumulative>
     ensures value { result ≡ cumulative forward names.now.positions.now (view value.now) }
     ensures limits { IfSome result (λ limit. IsMass 0 1000000 limit.most) }
 {

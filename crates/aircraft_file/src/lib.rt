@@ -23,7 +23,6 @@ mod forms;
 mod hold_forms;
 mod laws;
 mod loading_keys;
-mod names;
 mod parts;
 mod position_form;
 mod reader;

@@ -13,7 +13,6 @@ use crate::balance_forms::{CornerForm, FuelRowForm, ZoneForm};
 use crate::fault::FileFault;
 use crate::figure_keys::read_figures;
 use crate::hold_forms::{CombinedForm, CumulativeForm, ExcludeForm};
-use crate::names::Names;
 use crate::parts::{AllSides, HoldParts, Limits, Parts, Sides};
 use crate::position_form::PositionForm;
 use crate::section::Section;
@@ -21,6 +20,7 @@ use crate::side_keys::read_lateral;
 use desk_base::NoMemory;
 use fuel_table::FuelRow;
 use hold_limits::Cumulative;
+use hold_parts::PositionNames;
 use payload::Zone;
 use std::alloc::Global;
 
@@ -44,11 +44,15 @@ fn read_hold(alloc: Global, document: &Section<'_>) -> Result<HoldParts, FileFau
 {
     let positions = document.array(alloc, 23, "position", &PositionForm)?;
     let hold = document.section("hold");
-    let limits = read_limits(alloc, &Names::new(alloc, &positions)?, &hold)?;
+    let limits = read_limits(alloc, &PositionNames::new(alloc, &positions)?, &hold)?;
     Ok(HoldParts { positions, limits })
 }
 
-fn read_limits(alloc: Global, names: &Names<'_>, hold: &Section<'_>) -> Result<Limits, FileFault>
+fn read_limits(
+    alloc: Global,
+    names: &PositionNames<'_>,
+    hold: &Section<'_>,
+) -> Result<Limits, FileFault>
     ensures value { Answers limits_in result (limits_of names.now.positions.now (contents hold.now)) }
     ensures combined { IfOk result (λ limits. AreCombined limits.combined.items) }
     ensures cumulative { IfOk result (λ limits. AreCumulative limits.cumulative.items) }

@@ -10,12 +10,11 @@ ghost use Rattle.aircraft_file.specs.declared.side_keys.NamedSide.{NamedSide};
 
 use crate::fault::FileFault;
 use crate::hold_forms::SideForm;
-use crate::names::Names;
 use crate::section::Section;
 use crate::values::read_mass;
 use desk_base::NoMemory;
 use hold_limits::{Lateral, Position, Sides};
-use hold_parts::{Alike, first_repeat};
+use hold_parts::{Alike, PositionNames, first_repeat};
 use std::alloc::Global;
 
 /// A position that one of the two arrays names, and whether it is the array of the right side.
@@ -47,7 +46,7 @@ pub fn read_lateral(
         return Ok(None);
     };
     let most = read_mass(most).ok_or(FileFault::Wrong(35))?;
-    let sides = read_sides(alloc, &Names::new(alloc, positions)?, hold)?;
+    let sides = read_sides(alloc, &PositionNames::new(alloc, positions)?, hold)?;
     let sides = in_order(alloc, &sides, positions.len())?;
     Ok(Some(Lateral {
         most,
@@ -58,7 +57,7 @@ pub fn read_lateral(
 /// The positions on the left, and then those on the right.
 fn read_sides(
     alloc: Global,
-    names: &Names<'_>,
+    names: &PositionNames<'_>,
     hold: &Section<'_>,
 ) -> Result<Vec<NamedSide>, FileFault>
     ensures { Answers (λ sides. sides.items) result (sides_of names.now.positions.now (contents hold.now)) }

@@ -3,3 +3,4 @@ pub mod Accepting
 pub mod Twins
 pub mod Limits
 pub mod Repeats
+pub mod Names

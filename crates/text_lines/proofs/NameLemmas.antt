@@ -1,10 +1,9 @@
 -- a name means the first position that has it
-use Rattle.std.proofs.Common.{◌≡◌, ◌≢◌, ℕ, ◌+◌, ◌<◌, ◌≤◌, true, false, pos, List, [], ◌∷◌, ◌++◌, length, take, get_or, Option, Some, None, IfSome, IfNone, Bool, not, is_some, option_map, cond, refl, sym, ap, ◌∙◌, arith, All}
-use Rattle.std.specs.Prelude.{position, bytes_eq}
-use Rattle.std.specs.List.{position_or_len}
-use Rattle.std.specs.Option.{option_map_or, option_or}
+use Rattle.std.proofs.Common.{◌≡◌, ◌≢◌, ℕ, ◌<◌, true, false, pos, List, [], ◌∷◌, length, take, get_or, Option, Some, None, IfSome, IfNone, Bool, not, option_map, refl, sym, ap, ◌∙◌, arith, All}
+use Rattle.std.specs.Prelude.{bytes_eq}
+use Rattle.std.specs.Option.{option_map_or}
 use Rattle.std.proofs.lemmas.Bool.{true≢false}
-use Rattle.std.proofs.lemmas.List.{get_or-take, length-take-le, take_more}
+use Rattle.std.proofs.lemmas.List.{get_or-take, length-take-le}
 use Rattle.std.proofs.lemmas.List.Quantifiers.{position-Some}
 use Rattle.std.proofs.lemmas.Option.{slice_get-get_or, same_Some, none-some}
 use Rattle.std.proofs.lemmas.Slice.Eq.{bytes_eq-Decides}
@@ -13,11 +12,8 @@ use Rattle.hold_limits.proofs.FaultLemmas.{position-none}
 use Rattle.text_lines.specs.Cuts.{Avoids}
 use Rattle.text_lines.specs.Names.{IsNamed}
 use Rattle.hold_limits.specs.Layout.{name_at}
-use Rattle.text_lines.specs.Names.{byte_of, number_named}
-use Rattle.std.proofs.lemmas.Grind.{common_steps}
-use Rattle.std.proofs.lemmas.List.Folds.{position_or_len_push}
-use Rattle.std.proofs.lemmas.List.Sums.{prefix_len-le-length}
-use Rattle.std.proofs.lemmas.List.{length-append}
+use Rattle.text_lines.specs.Names.{byte_of}
+use Rattle.hold_parts.specs.Names.{number_named}
 
 -- what no answer depends on
 pub some_position : Position
@@ -54,6 +50,7 @@ pub differ : (a b : List ℕ) (unequal : Bool) → unequal ≡ true → unequal 
 differ a b unequal holds is e = true≢false (sym holds ∙ is ∙ ap not ((bytes_eq-Decides a b).1 e))
 
 pub number_named-found : (ps : List Position) (name : List ℕ) (q : ℕ) → number_named ps name ≡ Some q → IsNamed ps q × (name ≡ name_at ps q)
+unfolding number_named
 number_named-found ps name q e =
     let p = λ (p : Position). bytes_eq p.name name in
     let at = position-Some p ps q some_position e in
@@ -70,6 +67,7 @@ number_named-found ps name q e =
     )
 
 pub number_named-none : (ps : List Position) (name : List ℕ) → number_named ps name ≡ None → (q : ℕ) → IsNamed ps q → name ≢ name_at ps q
+unfolding number_named
 number_named-none ps name e q named same =
     let p = λ (p : Position). bytes_eq p.name name in
     let no : bytes_eq (get_or ps q some_position).name name ≡ false = position-none p ps e q some_position named.known in
@@ -114,45 +112,3 @@ number_none ps name r (Some q) e h = rw h tt
 
 pub table-none : (ps : List Position) (name : List ℕ) (r : Option ℕ) → r ≡ option_map byte_of (number_named ps name) → IfNone r ((number : ℕ) → IsNamed ps number → name ≢ name_at ps number)
 table-none ps name r h = number_none ps name r (number_named ps name) refl h
-
--- one position more
-position-push : (p : Position → Bool) (xs : List Position) (y : Position) (i : ℕ) → length xs ≡ i → position_or_len p xs ≤ length xs → position p (xs ++ y ∷ []) ≡ option_or (position p xs) (cond (p y) (Some i) None)
-position-push p xs y i long few = grind (arith, common_steps, position_or_len_push, length-append, few)
-
-pub number_named-more : (ps : List Position) (i : ℕ) (d : Position) (name : List ℕ) → i < length ps → number_named (take (i + 1) ps) name ≡ option_or (number_named (take i ps) name) (cond (bytes_eq (get_or ps i d).name name) (Some i) None)
-number_named-more ps i d name within =
-    let p : Position → Bool = λ (p : Position). bytes_eq p.name name in
-    let long : length (take i ps) ≡ i = length-take-le i ps (omega arith) in
-    let few : position_or_len p (take i ps) ≤ length (take i ps) = prefix_len-le-length (λ x. not (p x)) (take i ps) in
-    rw (take_more ps i d within) (position-push p (take i ps) (get_or ps i d) i long few)
-
-table_new : (m found : Option ℕ) (same : Bool) (i : ℕ) → (same ≡ true → found ≡ None) → m ≡ option_map byte_of found → cond same (Some (byte_of i)) m ≡ option_map byte_of (option_or found (cond same (Some i) None))
-table_new m found true i none e = rw (none refl) refl
-table_new m None false i none e = e
-table_new m (Some q) false i none e = e
-
-table_old : (m found : Option ℕ) (same : Bool) (i : ℕ) → (same ≡ true → found ≡ None → ⊥) → m ≡ option_map byte_of found → m ≡ option_map byte_of (option_or found (cond same (Some i) None))
-table_old m None true i some e = absurd (some refl refl)
-table_old m (Some q) true i some e = e
-table_old m None false i some e = e
-table_old m (Some q) false i some e = e
-
-none_from : (o : Option ℕ) → is_some (option_map byte_of o) ≡ false → o ≡ None
-none_from None e = refl
-none_from (Some q) e = absurd (true≢false e)
-
-some_from : (o : Option ℕ) → is_some (option_map byte_of o) ≡ true → o ≡ None → ⊥
-some_from None e n = true≢false (sym e)
-some_from (Some q) e n = absurd (cc)
-
--- the step of the table where the name is new, and where an earlier position has it
-pub table-more : (ps : List Position) (i : ℕ) (d : Position) (bs name : List ℕ) (known m : Option ℕ) → i < length ps → bs ≡ (get_or ps i d).name → known ≡ option_map byte_of (number_named (take i ps) bs) → is_some known ≡ false → m ≡ option_map byte_of (number_named (take i ps) name) → cond (bytes_eq bs name) (Some (byte_of i)) m ≡ option_map byte_of (number_named (take (i + 1) ps) name)
-table-more ps i d bs name known m within here old none e =
-    let absent : number_named (take i ps) bs ≡ None = none_from _ (ap is_some (sym old) ∙ none) in
-    let step = table_new m (number_named (take i ps) name) (bytes_eq bs name) i (λ same. ap (number_named (take i ps)) (sym (same_true bs name same)) ∙ absent) e in
-    step ∙ ap (λ n. option_map byte_of (option_or (number_named (take i ps) name) (cond (bytes_eq n name) (Some i) None))) here ∙ ap (option_map byte_of) (sym (number_named-more ps i d name within))
-
-pub table-same : (ps : List Position) (i : ℕ) (d : Position) (bs name : List ℕ) (known m : Option ℕ) → i < length ps → bs ≡ (get_or ps i d).name → known ≡ option_map byte_of (number_named (take i ps) bs) → is_some known ≡ true → m ≡ option_map byte_of (number_named (take i ps) name) → m ≡ option_map byte_of (number_named (take (i + 1) ps) name)
-table-same ps i d bs name known m within here old some e =
-    let step = table_old m (number_named (take i ps) name) (bytes_eq bs name) i (λ same none. some_from _ (ap is_some (sym old) ∙ some) (ap (number_named (take i ps)) (same_true bs name same) ∙ none)) e in
-    step ∙ ap (λ n. option_map byte_of (option_or (number_named (take i ps) name) (cond (bytes_eq n name) (Some i) None))) here ∙ ap (option_map byte_of) (sym (number_named-more ps i d name within))

@@ -1,5 +1,5 @@
 -- positions by their names
-use Rattle.std.specs.Prelude.{◌≢◌, ℕ, ◌<◌, List, length, take, All, min, Option, position, bytes_eq}
+use Rattle.std.specs.Prelude.{◌≢◌, ℕ, ◌<◌, List, length, take, All, min}
 use Rattle.hold_parts.specs.declared.parts.Position.{Position}
 use Rattle.hold_limits.specs.Layout.{name_at}
 
@@ -7,10 +7,6 @@ use Rattle.hold_limits.specs.Layout.{name_at}
 pub record IsNamed (positions : List Position) (q : ℕ) : Type 0 where
   pub known : q < length positions
   pub first : All (λ (earlier : Position). earlier.name ≢ name_at positions q) (take q positions)
-
--- the number of the first position with this name
-abbrev pub number_named : List Position → List ℕ → Option ℕ
-number_named positions name = position (λ (p : Position). bytes_eq p.name name) positions
 
 -- A hold has at most 64 positions. A text may have more, and is then refused for having too many. So a position
 -- number is kept as a byte, and as 255 where it does not fit.

@@ -1,29 +1,25 @@
 //! Positions by their names.
 
-ghost use Rattle.std.specs.Prelude.{◌≡◌, ◌≢◌, ℕ, List, ◌++◌, All, option_map, IfOk, IfSome, IfNone};
-ghost use Rattle.std.specs.Ordering.{nat_cmp};
-ghost use Rattle.std.specs.Cmp.Lexicographic.{slice_cmp};
-ghost use Rattle.std.specs.BTreeMap.{get_by};
+ghost use Rattle.std.specs.Prelude.{◌≡◌, ◌≢◌, ℕ, List, ◌++◌, All, IfOk, IfSome, IfNone};
 ghost use Rattle.hold_parts.specs.declared.parts.Position.{Position};
 ghost use Rattle.text_lines.specs.Cuts.{Avoids, IsCutAt};
 ghost use Rattle.text_lines.specs.Names.{IsNamed};
 ghost use Rattle.hold_limits.specs.Layout.{name_at};
 ghost use Rattle.text_lines.specs.WordRuns.{name_text};
-ghost use Rattle.text_lines.specs.Names.{byte_of, number_named};
+ghost use Rattle.text_lines.specs.Names.{byte_of};
 
 use crate::cuts::{after_prefix, cut};
 use desk_base::NoMemory;
 use hold_limits::Position;
+use hold_parts::PositionNames;
 use std::alloc::Global;
-use std::collections::BTreeMap;
 
-/// The numbers of positions by their names. A name that several positions have means the first of them.
+/// The numbers of positions by their names, none of which has a space, so that a text can name them in words.
 #[derive(Drop)]
 pub struct Names<'a> {
     pub positions: &'a [Position],
-    numbers: BTreeMap<&'a [u8], u8>,
-    ghost named: { (name : List ℕ)
-        → get_by (λ k. slice_cmp nat_cmp name k.now) numbers ≡ option_map byte_of (number_named positions.now name) },
+    numbers: PositionNames<'a>,
+    ghost same: { numbers.positions.now ≡ positions.now },
     ghost clear: { All (λ (q : Position). Avoids 32 q.name) positions.now },
 }
 
@@ -33,14 +29,10 @@ impl<'a> Names<'a> {
         requires { All (λ (q : Position). Avoids 32 q.name) positions.now }
         ensures { IfOk result (λ names. names.positions.now ≡ positions.now) }
     {
-        let mut numbers = BTreeMap::new(alloc);
-        for (number, position) in positions.iter().enumerate() {
-            let name = position.name.bytes();
-            if !numbers.contains_key(name) {
-                numbers.insert(name, byte_of(number))?;
-            }
-        }
-        Ok(Names { positions, numbers })
+        Ok(Names {
+            positions,
+            numbers: PositionNames::new(alloc, positions)?,
+        })
     }
 
     /// The number of the position with this name. None exactly where there is no such position.
@@ -51,7 +43,8 @@ impl<'a> Names<'a> {
             → name.now ≢ name_at self.now.positions.now number) }
         ensures clear { All (λ (q : Position). Avoids 32 q.name) self.now.positions.now }
     {
-        self.numbers.get(name).copied()
+        let number = self.numbers.number_of(name)?;
+        Some(byte_of(number))
     }
 }
 

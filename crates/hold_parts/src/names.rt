@@ -4,26 +4,26 @@ ghost use Rattle.std.specs.Prelude.{◌≡◌, List, ℕ, IfOk};
 ghost use Rattle.std.specs.BTreeMap.{get_by};
 ghost use Rattle.std.specs.Cmp.Lexicographic.{slice_cmp};
 ghost use Rattle.std.specs.Ordering.{nat_cmp};
-ghost use Rattle.aircraft_file.specs.Forms.{number_named};
+ghost use Rattle.hold_parts.specs.Names.{number_named};
 
+use crate::parts::Position;
 use desk_base::NoMemory;
-use hold_limits::Position;
 use std::alloc::Global;
 use std::collections::BTreeMap;
 
 /// The numbers of positions by their names. A name that several positions have means the first of them.
 #[derive(Drop)]
-pub struct Names<'a> {
+pub struct PositionNames<'a> {
     pub positions: &'a [Position],
     numbers: BTreeMap<&'a [u8], usize>,
     ghost named: { (name : List ℕ)
         → get_by (λ k. slice_cmp nat_cmp name k.now) numbers ≡ number_named positions.now name },
 }
 
-impl<'a> Names<'a> {
+impl<'a> PositionNames<'a> {
     /// The names of the positions.
-    #[tactic(auto, unfolding(crate::specs::Forms::number_named))]
-    pub fn new(alloc: Global, positions: &'a [Position]) -> Result<Names<'a>, NoMemory>
+    #[tactic(auto, unfolding(crate::specs::Names::number_named))]
+    pub fn new(alloc: Global, positions: &'a [Position]) -> Result<PositionNames<'a>, NoMemory>
         ensures { IfOk result (λ names. names.positions.now ≡ positions.now) }
     {
         let mut numbers = BTreeMap::new(alloc);
@@ -33,7 +33,7 @@ impl<'a> Names<'a> {
                 numbers.insert(name, number)?;
             }
         }
-        Ok(Names { positions, numbers })
+        Ok(PositionNames { positions, numbers })
     }
 
     /// The number of the position with this name.

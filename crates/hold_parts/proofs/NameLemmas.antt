@@ -10,7 +10,7 @@ use Rattle.std.proofs.lemmas.List.Folds.{position_or_len_push}
 use Rattle.std.proofs.lemmas.List.Sums.{prefix_len-le-length}
 use Rattle.std.proofs.lemmas.Slice.Eq.{bytes_eq-Decides}
 use Rattle.hold_parts.specs.declared.parts.Position.{Position}
-use Rattle.aircraft_file.specs.Forms.{number_named}
+use Rattle.hold_parts.specs.Names.{number_named}
 
 position-push : (p : Position → Bool) (xs : List Position) (y : Position) (i : ℕ) → length xs ≡ i → position_or_len p xs ≤ length xs → position p (xs ++ y ∷ []) ≡ option_or (position p xs) (cond (p y) (Some i) None)
 position-push p xs y i long few = grind (arith, common_steps, position_or_len_push, length-append, few)

@@ -2,8 +2,8 @@ use Rattle.std.proofs.Common.{◌≡◌, List, ℕ, take}
 use Rattle.std.specs.Ordering.{nat_cmp}
 use Rattle.std.specs.Cmp.Lexicographic.{slice_cmp}
 use Rattle.std.specs.BTreeMap.{get_by}
-use Rattle.aircraft_file.specs.Forms.{number_named}
-use Rattle.aircraft_file.proofs.names.Names.new.Given as goal
+use Rattle.hold_parts.specs.Names.{number_named}
+use Rattle.hold_parts.proofs.names.PositionNames.new.Given as goal
 
 abbrev pub invariant-loop-number : goal.invariant-loop-number
 invariant-loop-number l =
