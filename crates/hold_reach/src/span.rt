@@ -1,6 +1,6 @@
 //! Spans of hold indices, in ticks, and of lateral differences, in kilograms.
 
-ghost use Rattle.std.specs.Prelude.{◌≡◌, ◌↔◌, ◌≤ℤ◌, ◌+ℤ◌, ◌-ℤ◌, pos, IsTrue};
+ghost use Rattle.std.specs.Prelude.{◌≡◌, ◌↔◌, ◌≤◌, ◌≤ℤ◌, ◌+ℤ◌, ◌-ℤ◌, ◌*ℤ◌, pos, IsTrue};
 ghost use Rattle.hold_reach.specs.Extents.{IsBounded};
 ghost use Rattle.hold_reach.specs.Reach.{HaveCommonNumber};
 
@@ -47,6 +47,21 @@ impl Span {
         Span {
             low: self.low + other.low,
             high: self.high + other.high,
+        }
+    }
+
+    /// The span from so many times the low to so many times the high.
+    pub fn times(self, count: u8) -> Span
+        requires few { count ≤ 60 }
+        requires bounded { IsBounded 2000000000 self }
+        ensures low { result.low ≡ pos count *ℤ self.low }
+        ensures high { result.high ≡ pos count *ℤ self.high }
+        ensures still_bounded { IsBounded 120000000000 result }
+    {
+        let count = i64::from(count);
+        Span {
+            low: count * self.low,
+            high: count * self.high,
         }
     }
 
