@@ -67,8 +67,10 @@ impl Builder {
         ensures kept { OnErr result (self.new ≡ self.old) }
     {
         self.bytes.reserve(word.len() + 1)?;
-        self.bytes.push(b' ')?;
-        self.bytes.extend_from_slice(word)?;
+        self.bytes.push_reserved(b' ');
+        for byte in word {
+            self.bytes.push_reserved(*byte);
+        }
         Ok(())
     }
 
