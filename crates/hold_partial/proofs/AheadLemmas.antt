@@ -1,44 +1,44 @@
 -- what is ahead of a prefix, one container after another
-use Rattle.std.proofs.Common.{◌≡◌, ◌≢◌, ◌⊎◌, ⊎_elim, ℕ, ◌+◌, ◌*◌, ◌-◌, ◌<◌, ◌≤◌, ℤ, pos, ◌+ℤ◌, ◌-ℤ◌, ◌*ℤ◌, ◌≤ℤ◌, Bool, true, false, not, ◌&&◌, ◌||◌, ◌==◌, nat_le, List, [], ◌∷◌, ◌++◌, length, get_or, Option, Some, None, refl, ap, ap₂, sym, subst, ◌∙◌, arith, length-append, unsigned_abs}
-use Rattle.std.proofs.lemmas.Bool.{cases_Bool, and_parts, false≢true}
+use Rattle.std.proofs.Common.{◌≡◌, ◌≢◌, ⊎_elim, ℕ, ◌+◌, ◌*◌, ◌<◌, ◌≤◌, ℤ, pos, ◌+ℤ◌, ◌-ℤ◌, ◌*ℤ◌, ◌≤ℤ◌, Bool, true, false, not, ◌&&◌, ◌||◌, ◌==◌, nat_le, List, [], ◌∷◌, ◌++◌, length, get_or, Some, refl, ap, ap₂, sym, subst, ◌∙◌, arith, length-append, unsigned_abs}
+use Rattle.std.proofs.lemmas.Bool.{and_parts, false≢true}
 use Rattle.std.proofs.lemmas.Bool.Decides.{nat_tests}
 use Rattle.std.proofs.lemmas.Int.{ints}
-use Rattle.std.proofs.lemmas.Option.{get_or_from_slice_get, slice_get_within}
-use Rattle.std.specs.Prelude.{is_some, slice_get}
+use Rattle.std.proofs.Math.IntN.{zero-*ℤ, suc_ℤ-*ℤ}
+use Rattle.std.proofs.lemmas.Option.{get_or_from_slice_get, slice_get_cases, slice_get_within}
+use Rattle.std.specs.Prelude.{bytes_eq, cond, map, slice_get}
+use Rattle.std.specs.Option.{option_map_or}
 use Rattle.std.specs.List.{list_any, filter, range_with_len}
+use Rattle.hold_parts.specs.declared.lists.Fit.{Fit}
 use Rattle.hold_parts.specs.declared.parts.Item.{Item}
+use Rattle.hold_parts.specs.declared.parts.Position.{Position}
 use Rattle.hold_parts.specs.Twins.{AreTwins}
 use Rattle.hold_limits.specs.Layout.{Layout}
 use Rattle.hold_limits.specs.Problem.{Problem}
 use Rattle.hold_limits.specs.BranchOrder.{ordered}
 use Rattle.hold_limits.specs.Enumeration.{is_accepted, exclude}
-use Rattle.hold_limits.specs.Faults.{IsLawful, fault_if}
-use Rattle.hold_limits.specs.Placement.{influence_at, placed_moment, hold_index, IsSound}
-use Rattle.hold_limits.proofs.FaultLemmas.{option_or-none, fault_if-none}
-use Rattle.hold_limits.proofs.LawfulBounds.{lawful-bounds}
-use Rattle.hold_reach.specs.declared.rule.RuleBroken.TheVariants as rule
-use Rattle.hold_reach.specs.declared.extent.Extent.TheVariants.{Reach}
+use Rattle.hold_limits.specs.Faults.{IsLawful}
+use Rattle.hold_limits.specs.Placement.{influence_at, placed_moment, hold_index}
+use Rattle.hold_reach.specs.declared.extent.Extent.{Extent}
+use Rattle.hold_reach.specs.declared.extent.Extent.TheVariants.{Reach, WideReach, LateralReach}
 use Rattle.hold_reach.specs.declared.span.Span.{Span}
-use Rattle.hold_reach.specs.Extents.{may_stand, amount_of, IsBounded, IsSpanOfList}
-use Rattle.hold_reach.specs.Reach.{falls, is_open, amounts, reach}
-use Rattle.hold_reach.specs.Rules.{is_used, has_kind_at}
+use Rattle.hold_reach.specs.Extents.{may_stand, amount_of, so_far, IsBounded, IsSpanOfList}
+use Rattle.hold_reach.specs.Reach.{falls, is_free, is_open, amounts, reach}
+use Rattle.hold_reach.specs.Rules.{is_used}
 use Rattle.hold_reach.proofs.ReachLemmas.{IsSummed, amounts-bounded, summed-start, summed-next, summed-all}
-use Rattle.hold_reach.proofs.RuleLemmas.{rule_broken-none}
-use Rattle.hold_reach.proofs.ViableLemmas.{hold_index-next}
+use Rattle.hold_reach.proofs.ViableLemmas.{hold_index-next, lateral_difference-next}
 use Rattle.desk_base.proofs.PairLemmas.{each-weaker}
 use Rattle.hold_partial.specs.declared.ahead.Ahead.{Ahead}
 use Rattle.hold_partial.specs.declared.ahead.Extremes.{Extremes}
-use Rattle.hold_partial.specs.declared.board.Board.{Board}
 use Rattle.hold_partial.specs.declared.position_set.PositionSet.{PositionSet}
 use Rattle.hold_partial.specs.declared.tables.Tables.{Tables}
 use Rattle.hold_partial.specs.Arrangement.{Ranked, ranked_of, at_rank}
-use Rattle.hold_partial.specs.Ahead.{AreExtremes, Spares, IsAhead}
-use Rattle.hold_partial.specs.Kept.{AreTables, IsKept, factor_of}
+use Rattle.hold_partial.specs.Ahead.{AreExtremes, Spares, IsSpanOfTwin, moved, IsAhead}
+use Rattle.hold_partial.specs.Kept.{AreTables, factor_of}
 use Rattle.hold_partial.specs.Sets.{has}
 use Rattle.hold_partial.specs.Tables.{first_twin}
-use Rattle.hold_partial.proofs.ClosedLemmas.{falls-next_other, class-of_twins}
+use Rattle.hold_partial.proofs.ClosedLemmas.{at_rank-ext, falls-next_other, falls-next_twin, falls-twins, class-of_twins}
 use Rattle.hold_partial.proofs.KeptLemmas.{stand-known}
-use Rattle.hold_partial.proofs.LevelSteps.{is_blocked-next, free-by, hold_index-bound}
+use Rattle.hold_partial.proofs.LevelSteps.{is_blocked-next, free-by, hold_index-bound, lateral-bound}
 use Rattle.hold_partial.proofs.RankLemmas.{least-and-greatest, in-filter, in-range, each-passes, moment-order, number-at, rank-of, at-its-rank}
 
 -- What stays open -------------------------------------------------------------------------------
@@ -73,19 +73,65 @@ turned true false true false = refl
 turned true false false true = refl
 turned true false false false = refl
 
--- a container closes its own position and those that it excludes to the containers that are not its twins
-open-next : (t : Problem) (prefix : List ℕ) (item other : Item) (q a : ℕ) → slice_get (ordered t.items) (length prefix) ≡ Some item → (AreTwins item other → ⊥)
-    → is_open t (prefix ++ q ∷ []) other a ≡ (is_open t prefix other a && not ((q == a) || exclude t.hold q a))
-open-next t prefix item other q a next apart =
+unblocked : (accepts blocked more : Bool) → (accepts && not (blocked || more)) ≡ ((accepts && not blocked) && not more)
+unblocked false blocked more = refl
+unblocked true true more = refl
+unblocked true false more = refl
+
+-- a container takes its own position and those that it excludes from the free ones
+pub free-next : (t : Problem) (prefix : List ℕ) (other : Item) (q a : ℕ) → is_free t (prefix ++ q ∷ []) other a ≡ (is_free t prefix other a && not ((q == a) || exclude t.hold q a))
+free-next t prefix other q a =
     let accepts = is_accepted t.hold (other, a) in
     let used = is_used prefix a in
     let excluded = list_any (λ used. exclude t.hold used a) prefix in
     let more = (q == a) || exclude t.hold q a in
-    let closed = falls t prefix other a in
-    sym (ap (λ free. free && not (falls t (prefix ++ q ∷ []) other a)) (free-by accepts (is_used (prefix ++ q ∷ []) a) (list_any (λ used. exclude t.hold used a) (prefix ++ q ∷ []))))
-    ∙ ap₂ (λ blocked closed. (accepts && not blocked) && not closed) (is_blocked-next t.hold prefix q a) (falls-next_other t prefix item other q a next apart)
-    ∙ turned accepts (used || excluded) more closed
-    ∙ ap (λ free. (free && not closed) && not more) (free-by accepts used excluded)
+    sym (free-by accepts (is_used (prefix ++ q ∷ []) a) (list_any (λ used. exclude t.hold used a) (prefix ++ q ∷ [])))
+    ∙ ap (λ blocked. accepts && not blocked) (is_blocked-next t.hold prefix q a)
+    ∙ unblocked accepts (used || excluded) more
+    ∙ ap (λ free. free && not more) (free-by accepts used excluded)
+
+swapped : (free more closed : Bool) → ((free && not more) && not closed) ≡ ((free && not closed) && not more)
+swapped false more closed = refl
+swapped true true true = refl
+swapped true true false = refl
+swapped true false true = refl
+swapped true false false = refl
+
+-- a container closes its own position and those that it excludes to the containers that are not its twins
+pub open-next : (t : Problem) (prefix : List ℕ) (item other : Item) (q a : ℕ) → slice_get (ordered t.items) (length prefix) ≡ Some item → (AreTwins item other → ⊥)
+    → is_open t (prefix ++ q ∷ []) other a ≡ (is_open t prefix other a && not ((q == a) || exclude t.hold q a))
+open-next t prefix item other q a next apart =
+    let more = (q == a) || exclude t.hold q a in
+    ap₂ (λ free closed. free && not closed) (free-next t prefix other q a) (falls-next_other t prefix item other q a next apart)
+    ∙ swapped (is_free t prefix other a) more (falls t prefix other a)
+
+parted : (free more closed below : Bool) → ((free && not more) && not (closed || below)) ≡ (((free && not closed) && not more) && not below)
+parted false more closed below = refl
+parted true true true below = refl
+parted true true false below = refl
+parted true false true below = refl
+parted true false false below = refl
+
+-- and, to its twins, those with no greater number too
+pub open-next_twin : (t : Problem) (prefix : List ℕ) (item other : Item) (q a : ℕ) → slice_get (ordered t.items) (length prefix) ≡ Some item → AreTwins item other
+    → is_open t (prefix ++ q ∷ []) other a ≡ ((is_open t prefix other a && not ((q == a) || exclude t.hold q a)) && not (nat_le a q))
+open-next_twin t prefix item other q a next twins =
+    let more = (q == a) || exclude t.hold q a in
+    ap₂ (λ free closed. free && not closed) (free-next t prefix other q a) (falls-next_twin t prefix item other q a next twins)
+    ∙ parted (is_free t prefix other a) more (falls t prefix other a) (nat_le a q)
+
+-- two sets of ranks, one without the other
+pub at_rank-less : (f g h : ℕ → Bool) (ranks : List Ranked) → ((a : ℕ) → h a ≡ (f a && not (g a))) → (r : ℕ) → (at_rank f ranks r && not (at_rank g ranks r)) ≡ at_rank h ranks r
+at_rank-less f g h ranks same r = ⊎_elim
+    (λ here. rw here.2 (sym (same here.0.1)))
+    (λ past. rw past.1 refl)
+    (slice_get_cases ranks r).1
+
+-- the free positions once the next container stands on one
+pub free-after : (t : Problem) (ranks : List Ranked) (prefix : List ℕ) (other : Item) (q : ℕ) (places : PositionSet)
+    → ((r : ℕ) → has places r ≡ at_rank (λ a. is_free t prefix other a && not ((q == a) || exclude t.hold q a)) ranks r) → (r : ℕ) → has places r ≡ at_rank (is_free t (prefix ++ q ∷ []) other) ranks r
+free-after t ranks prefix other q places stands r =
+    stands r ∙ at_rank-ext (λ a. is_free t prefix other a && not ((q == a) || exclude t.hold q a)) (is_free t (prefix ++ q ∷ []) other) ranks (λ a. sym (free-next t prefix other q a)) r
 
 apart-is : (q a : ℕ) → a ≢ q → (q == a) ≡ false
 apart-is q a apart = grind (arith, nat_tests)
@@ -118,36 +164,60 @@ amounts-next t prefix item other q e next apart extremes first last =
     (each-weaker (λ a. p a ≡ true) (λ a. (f e.first ≤ℤ f a) × (f a ≤ℤ f e.last)) (λ a now. extremes.between a (was-open t prefix item other q a next apart now)) (filter p (range_with_len 0 n)) (each-passes p (range_with_len 0 n))) in
     (found.0, extremes.low ∙ found.1, extremes.high ∙ found.2)
 
+-- Twins of the next container ---------------------------------------------------------------------
+
+filter-same : (p q : ℕ → Bool) → ((a : ℕ) → p a ≡ q a) → (ns : List ℕ) → filter p ns ≡ filter q ns
+filter-same p q same [] = refl
+filter-same p q same (n ∷ ns) = ap₂ (λ passes rest. cond passes (n ∷ rest) rest) (same n) (filter-same p q same ns)
+
+accepted-twins : (hold : Layout) (a b : Item) (q : ℕ) → AreTwins a b → is_accepted hold (a, q) ≡ is_accepted hold (b, q)
+accepted-twins hold a b q twins =
+    ap₂ (λ kind mass. option_map_or (λ (place : Position). list_any (λ (fit : Fit). bytes_eq fit.kind kind && nat_le mass fit.most.0) place.fits) (slice_get hold.positions q) false) twins.0 twins.1
+
+open-twins : (t : Problem) (prefix : List ℕ) (a b : Item) (q : ℕ) → AreTwins a b → is_open t prefix a q ≡ is_open t prefix b q
+open-twins t prefix a b q twins =
+    ap₂ (λ accepts closed. (accepts && (not (is_used prefix q) && not (list_any (λ used. exclude t.hold used q) prefix))) && not closed)
+    (accepted-twins t.hold a b q twins) (falls-twins t prefix a b q twins)
+
+-- twins add the same on the same positions
+amounts-twins : (t : Problem) (prefix : List ℕ) (a b : Item) → AreTwins a b → amounts t (is_open t prefix) (placed_moment t.hold) a ≡ amounts t (is_open t prefix) (placed_moment t.hold) b
+amounts-twins t prefix a b twins =
+    let ns = range_with_len 0 (length t.hold.positions) in
+    ap₂ (λ mass qs. map (λ q. pos mass *ℤ influence_at t.hold q) qs) twins.1 (filter-same (is_open t prefix a) (is_open t prefix b) (λ q. open-twins t prefix a b q twins) ns)
+
 -- The containers after the next one -------------------------------------------------------------
 
--- the span moved by how much the hold index grows with the next container
-abbrev pub moved : Problem → List ℕ → ℕ → Span → Span
-moved t prefix q span = record {
-  low = (span.low -ℤ hold_index t prefix) +ℤ hold_index t (prefix ++ q ∷ []);
-  high = (span.high -ℤ hold_index t prefix) +ℤ hold_index t (prefix ++ q ∷ []);
-}
+-- the span moved by the moment of the next container on the position and by what its twins add
+abbrev pub moved_span : Problem → List ℕ → ℕ → ℕ → Span → Span → Span
+moved_span t prefix q twins each span = record { low = moved t prefix q twins each.low span.low; high = moved t prefix q twins each.high span.high }
 
 -- what a loop over the containers after the next one keeps
-pub record IsLooked (t : Problem) (prefix : List ℕ) (rank done : ℕ) (ends : PositionSet) (span : Span) : Type 0 where
+pub record IsLooked (t : Problem) (prefix : List ℕ) (item : Item) (rank done : ℕ) (ends : PositionSet) (twins : ℕ) (span : Span) : Type 0 where
   pub known : (a : ℕ) → has ends a ≡ true → a < length t.hold.positions
-  pub summed : (q : ℕ) → IsSound t (prefix ++ q ∷ []) → Spares t.hold ends q → IsSummed Reach t (prefix ++ q ∷ []) rank done (moved t prefix q span)
+  pub few : twins ≤ done
+  pub summed : (q : ℕ) (each : Span) → Spares t.hold ends q → (0 < twins → IsSpanOfTwin t prefix item q each) → IsSummed Reach t (prefix ++ q ∷ []) rank done (moved_span t prefix q twins each span)
   pub bounded : IsBounded (248000000000 + 2000000000 * done) span
 
-back-to : (x y : ℤ) → (x -ℤ x) +ℤ y ≡ y
-back-to x y = omega (arith, ints)
+no-twins : (y : ℤ) → pos 0 *ℤ y ≡ pos 0
+no-twins y = zero-*ℤ y
 
-pub looked-start : (t : Problem) (prefix : List ℕ) (rank : ℕ) (ends : PositionSet) (span : Span) → IsLawful t → IsSound t prefix → rank ≡ length prefix + 1
-    → ((a : ℕ) → has ends a ≡ false) → span.low ≡ hold_index t prefix → span.high ≡ hold_index t prefix → IsLooked t prefix rank 0 ends span
-looked-start t prefix rank ends span lawful sound begins none low high =
-    let bound = hold_index-bound t lawful prefix sound.short in
+back-to : (x y z : ℤ) → z ≡ pos 0 → ((x -ℤ x) +ℤ y) +ℤ z ≡ y
+back-to x y z none = omega (arith, ints)
+
+pub looked-start : (t : Problem) (prefix : List ℕ) (item : Item) (rank : ℕ) (ends : PositionSet) (span : Span) → IsLawful t → length prefix < length t.items → rank ≡ length prefix + 1
+    → ((a : ℕ) → has ends a ≡ false) → span.low ≡ hold_index t prefix → span.high ≡ hold_index t prefix → IsLooked t prefix item rank 0 ends 0 span
+looked-start t prefix item rank ends span lawful short begins none low high =
+    let bound = hold_index-bound t lawful prefix (omega (arith, short)) in
     record {
       known = λ a is. absurd (false≢true (sym (none a) ∙ is));
-      summed = λ q longer _.
+      few = omega arith;
+      summed = λ q each _ _.
           let next = hold_index t (prefix ++ q ∷ []) in
-          summed-start Reach t (prefix ++ q ∷ []) rank (moved t prefix q span) (omega (arith, begins, length-append prefix (q ∷ [])))
-          (ap (λ (x : ℤ). (x -ℤ hold_index t prefix) +ℤ next) low ∙ back-to (hold_index t prefix) next)
-          (ap (λ (x : ℤ). (x -ℤ hold_index t prefix) +ℤ next) high ∙ back-to (hold_index t prefix) next)
-          (hold_index-bound t lawful (prefix ++ q ∷ []) longer.short);
+          let here = hold_index t prefix in
+          summed-start Reach t (prefix ++ q ∷ []) rank (moved_span t prefix q 0 each span) (omega (arith, begins, length-append prefix (q ∷ [])))
+          (ap (λ (x : ℤ). ((x -ℤ here) +ℤ next) +ℤ pos 0 *ℤ each.low) low ∙ back-to here next (pos 0 *ℤ each.low) (no-twins each.low))
+          (ap (λ (x : ℤ). ((x -ℤ here) +ℤ next) +ℤ pos 0 *ℤ each.high) high ∙ back-to here next (pos 0 *ℤ each.high) (no-twins each.high))
+          (hold_index-bound t lawful (prefix ++ q ∷ []) (omega (arith, short, length-append prefix (q ∷ []))));
       bounded = (omega (arith, bound, ap unsigned_abs low), omega (arith, bound, ap unsigned_abs high));
     }
 
@@ -175,29 +245,53 @@ ends-known ends more first last n same known of_first of_last a is = cases (has 
     cases true before is = before refl
     cases false before is = grind (arith, nat_tests)
 
-sum-moved : (a b c h k : ℤ) → c ≡ a +ℤ b → (c -ℤ h) +ℤ k ≡ ((a -ℤ h) +ℤ k) +ℤ b
-sum-moved a b c h k is = omega (arith, ints)
+sum-moved : (a b c h k m : ℤ) → c ≡ a +ℤ b → ((c -ℤ h) +ℤ k) +ℤ m ≡ (((a -ℤ h) +ℤ k) +ℤ m) +ℤ b
+sum-moved a b c h k m is = omega (arith, ints)
 
 sum-bound : (a b c : ℤ) (done : ℕ) → c ≡ a +ℤ b → unsigned_abs a ≤ 248000000000 + 2000000000 * done → unsigned_abs b ≤ 2000000000 → unsigned_abs c ≤ 248000000000 + 2000000000 * (done + 1)
 sum-bound a b c done is first second = omega (arith, ints)
 
 -- with the container of one rank more, which is no twin of the next one
-pub looked-next : (t : Problem) (prefix : List ℕ) (item other : Item) (rank done : ℕ) (ends more : PositionSet) (span wider : Span) (e : Extremes) → IsLawful t
+pub looked-next : (t : Problem) (prefix : List ℕ) (item other : Item) (rank done : ℕ) (ends more : PositionSet) (twins : ℕ) (span wider : Span) (e : Extremes) → IsLawful t
     → slice_get (ordered t.items) (length prefix) ≡ Some item → rank < length t.items → slice_get (ordered t.items) rank ≡ Some other → (AreTwins item other → ⊥) → other.mass.0 ≤ 20000
     → AreExtremes t prefix other e → IsBounded 2000000000 e.span → ((a : ℕ) → has more a ≡ ((has ends a || (a == e.first)) || (a == e.last)))
     → wider.low ≡ span.low +ℤ e.span.low → wider.high ≡ span.high +ℤ e.span.high
-    → IsLooked t prefix rank done ends span → IsLooked t prefix (rank + 1) (done + 1) more wider
-looked-next t prefix item other rank done ends more span wider e lawful next within there apart light extremes small grown low high looked = record {
+    → IsLooked t prefix item rank done ends twins span → IsLooked t prefix item (rank + 1) (done + 1) more twins wider
+looked-next t prefix item other rank done ends more twins span wider e lawful next within there apart light extremes small grown low high looked = record {
   known = ends-known ends more e.first e.last (length t.hold.positions) grown looked.known (stand-known Reach t prefix other e.first extremes.first) (stand-known Reach t prefix other e.last extremes.last);
-  summed = λ q sound spares.
+  few = omega (arith, looked.few);
+  summed = λ q each spares of_twin.
       let before : Spares t.hold ends q = λ a is. spares a (grown a ∙ or-first (has ends a) (a == e.first) (a == e.last) is) in
       let first = spares e.first (grown e.first ∙ or-second (has ends e.first) (e.first == e.first) (e.first == e.last) (self-is e.first)) in
       let last = spares e.last (grown e.last ∙ or-third (has ends e.last) (e.last == e.first) (e.last == e.last) (self-is e.last)) in
-      summed-next Reach t (prefix ++ q ∷ []) rank done (moved t prefix q span) e.span (moved t prefix q wider) other lawful within there light (looked.summed q sound before)
+      summed-next Reach t (prefix ++ q ∷ []) rank done (moved_span t prefix q twins each span) e.span (moved_span t prefix q twins each wider) other lawful within there light (looked.summed q each before of_twin)
       (amounts-next t prefix item other q e next apart extremes first last)
-      (sum-moved span.low e.span.low wider.low (hold_index t prefix) (hold_index t (prefix ++ q ∷ [])) low)
-      (sum-moved span.high e.span.high wider.high (hold_index t prefix) (hold_index t (prefix ++ q ∷ [])) high);
+      (sum-moved span.low e.span.low wider.low (hold_index t prefix) (hold_index t (prefix ++ q ∷ [])) (pos twins *ℤ each.low) low)
+      (sum-moved span.high e.span.high wider.high (hold_index t prefix) (hold_index t (prefix ++ q ∷ [])) (pos twins *ℤ each.high) high);
   bounded = (sum-bound span.low e.span.low wider.low done low looked.bounded.0 small.0, sum-bound span.high e.span.high wider.high done high looked.bounded.1 small.1);
+}
+
+one-more : (n : ℕ) (y : ℤ) → pos (n + 1) *ℤ y ≡ pos n *ℤ y +ℤ y
+one-more n y = ap (λ (x : ℤ). x *ℤ y) (ap pos (omega arith)) ∙ suc_ℤ-*ℤ (pos n) y
+
+twin-moved : (a m n b : ℤ) → n ≡ m +ℤ b → a +ℤ n ≡ (a +ℤ m) +ℤ b
+twin-moved a m n b is = omega (arith, ints)
+
+-- with the container of one rank more, which is a twin of the next one
+pub looked-twin : (t : Problem) (prefix : List ℕ) (item other : Item) (rank done : ℕ) (ends : PositionSet) (twins : ℕ) (span : Span) → IsLawful t
+    → rank < length t.items → slice_get (ordered t.items) rank ≡ Some other → AreTwins item other → other.mass.0 ≤ 20000
+    → IsLooked t prefix item rank done ends twins span → IsLooked t prefix item (rank + 1) (done + 1) ends (twins + 1) span
+looked-twin t prefix item other rank done ends twins span lawful within there are light looked = record {
+  known = looked.known;
+  few = omega (arith, looked.few);
+  summed = λ q each spares of_twin.
+      let is : IsSpanOfTwin t prefix item q each = of_twin (omega arith) in
+      let of_other = subst (λ (xs : List ℤ). IsSpanOfList xs (Some each)) (amounts-twins t (prefix ++ q ∷ []) item other are) is in
+      summed-next Reach t (prefix ++ q ∷ []) rank done (moved_span t prefix q twins each span) each (moved_span t prefix q (twins + 1) each span) other lawful within there light (looked.summed q each spares (λ _. is))
+      of_other
+      (twin-moved ((span.low -ℤ hold_index t prefix) +ℤ hold_index t (prefix ++ q ∷ [])) (pos twins *ℤ each.low) (pos (twins + 1) *ℤ each.low) each.low (one-more twins each.low))
+      (twin-moved ((span.high -ℤ hold_index t prefix) +ℤ hold_index t (prefix ++ q ∷ [])) (pos twins *ℤ each.high) (pos (twins + 1) *ℤ each.high) each.high (one-more twins each.high));
+  bounded = (omega (arith, looked.bounded.0), omega (arith, looked.bounded.1));
 }
 
 -- what the extremes of a container come to
@@ -213,14 +307,13 @@ extremes-bounded t prefix other e lawful light extremes =
     amounts-bounded Reach t prefix other e.span lawful light (found.0, extremes.low ∙ found.1, extremes.high ∙ found.2)
 
 -- with all containers
-pub looked-all : (t : Problem) (prefix : List ℕ) (rank done : ℕ) (ahead : Ahead) → IsLawful t → length t.items ≤ rank → done ≤ 60 → ((q : ℕ) → IsSound t (prefix ++ q ∷ []) → has ahead.candidates q ≡ true)
-    → IsLooked t prefix rank done ahead.ends ahead.reach → IsAhead t prefix ahead
-looked-all t prefix rank done ahead lawful past few candidates looked = record {
-  candidates = candidates;
-  few = (lawful-bounds t lawful).positions;
+pub looked-all : (t : Problem) (prefix : List ℕ) (item : Item) (rank done : ℕ) (ahead : Ahead) → length t.items ≤ rank → done ≤ 60
+    → IsLooked t prefix item rank done ahead.ends ahead.twins ahead.reach → IsAhead t prefix item ahead
+looked-all t prefix item rank done ahead past few looked = record {
   known = looked.known;
-  reach = λ q sound spares. sym (summed-all Reach t (prefix ++ q ∷ []) rank done (moved t prefix q ahead.reach) past (looked.summed q sound spares));
-  bounded = (omega (arith, looked.bounded.0), omega (arith, looked.bounded.1));
+  few = omega (arith, few, looked.few);
+  reach = λ q each spares of_twin. sym (summed-all Reach t (prefix ++ q ∷ []) rank done (moved_span t prefix q ahead.twins each ahead.reach) past (looked.summed q each spares of_twin));
+  bounded = (omega (arith, few, looked.bounded.0), omega (arith, few, looked.bounded.1));
 }
 
 -- Extremes --------------------------------------------------------------------------------------
@@ -263,54 +356,52 @@ extremes-are t tables prepared prefix item places stands first last has_first ha
       high = high ∙ ap₂ (λ m (x : ℤ). pos m *ℤ x) mass_is (ap (λ (r : Ranked). r.0) at_last) ∙ ap (λ n. placed_moment t.hold (item, n)) (sym is_last);
     }
 
--- Candidates ------------------------------------------------------------------------------------
-
-not-not : (b : Bool) → not b ≡ false → b ≡ true
-not-not true is = refl
-not-not false is = sym is
-
--- the next container may follow only on an unused position that accepts it
-pub candidate-is : (b : Board) → IsKept b → (q : ℕ) (item : Item) → length b.prefix.items < length b.task.now.items → slice_get (ordered b.task.now.items) (length b.prefix.items) ≡ Some item
-    → IsSound b.task.now (b.prefix.items ++ q ∷ []) → (is_used b.prefix.items q ≡ false) × (is_accepted b.task.now.hold (item, q) ≡ true)
-candidate-is b kept q item short there sound =
-    let t = b.task.now in
-    let prefix = b.prefix.items in
-    let none = (rule_broken-none t prefix item q kept.sound there).1 sound in
-    let known = option_or-none (fault_if (nat_le (length t.hold.positions) q) rule.Unknown) _ none in
-    let unused = option_or-none (fault_if (is_used prefix q) rule.Taken) _ known.1 in
-    let of_kind = option_or-none (fault_if (not (has_kind_at t.hold item q)) rule.NoFit) _ unused.1 in
-    let accepted = option_or-none (fault_if (not (is_accepted t.hold (item, q))) rule.TooHeavy) _ of_kind.1 in
-    (fault_if-none (is_used prefix q) rule.Taken unused.0, not-not (is_accepted t.hold (item, q)) (fault_if-none (not (is_accepted t.hold (item, q))) rule.TooHeavy accepted.0))
+-- Twins and others -----------------------------------------------------------------------------
 
 -- containers of different classes are no twins
 pub twins-apart : (t : Problem) (item other : Item) (class class_of_other : ℕ) → class ≡ first_twin t item → class_of_other ≡ first_twin t other → class_of_other ≢ class → AreTwins item other → ⊥
 twins-apart t item other class class_of_other is of_other differ twins = differ (of_other ∙ sym (class-of_twins t item other twins) ∙ sym is)
 
--- One position more -----------------------------------------------------------------------------
+-- The next container ----------------------------------------------------------------------------
 
-abs-between : (h k x : ℤ) → k ≡ h +ℤ x → unsigned_abs h ≤ 248000000000 → unsigned_abs k ≤ 248000000000 → unsigned_abs x ≤ 496000000000
-abs-between h k x is first second = omega (arith, ints)
+-- what there is so far grows by what the next container adds
+pub so_far-next : (e : Extent) (t : Problem) (prefix : List ℕ) (item : Item) (q : ℕ) → slice_get (ordered t.items) (length prefix) ≡ Some item
+    → so_far e t (prefix ++ q ∷ []) ≡ so_far e t prefix +ℤ amount_of e t.hold (item, q)
+so_far-next Reach t prefix item q next = hold_index-next t prefix item q next
+so_far-next WideReach t prefix item q next = hold_index-next t prefix item q next
+so_far-next LateralReach t prefix item q next = lateral_difference-next t prefix item q next
 
--- by how much the hold index grows with the next container
-pub index-grows : (b : Board) → IsKept b → (q : ℕ) (item : Item) (mass : ℕ) (influence x : ℤ) → IsSound b.task.now (b.prefix.items ++ q ∷ []) → slice_get (ordered b.task.now.items) (length b.prefix.items) ≡ Some item
-    → mass ≡ item.mass.0 → influence ≡ influence_at b.task.now.hold q → x ≡ pos mass *ℤ influence
-    → (hold_index b.task.now (b.prefix.items ++ q ∷ []) ≡ hold_index b.task.now b.prefix.items +ℤ x) × (unsigned_abs x ≤ 496000000000)
-index-grows b kept q item mass influence x sound there mass_is influence_is is =
-    let t = b.task.now in
-    let prefix = b.prefix.items in
-    let moment : x ≡ placed_moment t.hold (item, q) = is ∙ ap₂ (λ m (f : ℤ). pos m *ℤ f) mass_is influence_is in
-    let grows : hold_index t (prefix ++ q ∷ []) ≡ hold_index t prefix +ℤ x = hold_index-next t prefix item q there ∙ ap (λ (y : ℤ). hold_index t prefix +ℤ y) (sym moment) in (
-      grows,
-      abs-between (hold_index t prefix) (hold_index t (prefix ++ q ∷ [])) x grows (hold_index-bound t kept.lawful prefix kept.sound.short) (hold_index-bound t kept.lawful (prefix ++ q ∷ []) sound.short),
-    )
+pub so_far-bound : (e : Extent) (t : Problem) (prefix : List ℕ) → IsLawful t → length prefix ≤ length t.items → unsigned_abs (so_far e t prefix) ≤ 248000000000
+so_far-bound Reach t prefix lawful short = hold_index-bound t lawful prefix short
+so_far-bound WideReach t prefix lawful short = hold_index-bound t lawful prefix short
+so_far-bound LateralReach t prefix lawful short = let bound = lateral-bound t lawful prefix short in omega (arith, bound)
 
-pub moved-by : (a h k x y r : ℤ) → r ≡ a +ℤ y → y ≡ x → k ≡ h +ℤ x → r ≡ (a -ℤ h) +ℤ k
-moved-by a h k x y r sum same grows = omega (arith, ints)
+moved-is : (end h k moment m r : ℤ) → k ≡ h +ℤ moment → r ≡ (end +ℤ moment) +ℤ m → ((end -ℤ h) +ℤ k) +ℤ m ≡ r
+moved-is end h k moment m r grows is = omega (arith, ints)
 
-pub is_none-true : {X : Type 0} (o : Option X) (none : Bool) → is_some o ≡ not none → none ≡ true → o ≡ None
-is_none-true None none told is = refl
-is_none-true (Some x) none told is = absurd (false≢true (sym (told ∙ ap not is)))
+-- the reach, from what is ahead
+pub reach-from_ahead : (t : Problem) (prefix : List ℕ) (item : Item) (q : ℕ) (ahead : Ahead) (added each span : Span) → slice_get (ordered t.items) (length prefix) ≡ Some item
+    → IsAhead t prefix item ahead → Spares t.hold ahead.ends q → (0 < ahead.twins → IsSpanOfTwin t prefix item q each) → added.low ≡ placed_moment t.hold (item, q) → added.high ≡ placed_moment t.hold (item, q)
+    → span.low ≡ (ahead.reach.low +ℤ added.low) +ℤ pos ahead.twins *ℤ each.low → span.high ≡ (ahead.reach.high +ℤ added.high) +ℤ pos ahead.twins *ℤ each.high
+    → reach t (prefix ++ q ∷ []) ≡ Some (span.low, span.high)
+reach-from_ahead t prefix item q ahead added each span next is spares of_twin added_low added_high low high =
+    let here = hold_index t prefix in
+    let there = hold_index t (prefix ++ q ∷ []) in
+    let grows = hold_index-next t prefix item q next in
+    is.reach q each spares of_twin
+    ∙ ap₂ (λ (x y : ℤ). Some (x, y))
+    (moved-is ahead.reach.low here there added.low (pos ahead.twins *ℤ each.low) span.low (grows ∙ ap (λ (x : ℤ). here +ℤ x) (sym added_low)) low)
+    (moved-is ahead.reach.high here there added.high (pos ahead.twins *ℤ each.high) span.high (grows ∙ ap (λ (x : ℤ). here +ℤ x) (sym added_high)) high)
 
-pub is_none-false : {X : Type 0} (o : Option X) (none : Bool) → is_some o ≡ not none → none ≡ false → o ≡ None → ⊥
-is_none-false None none told is empty = false≢true (told ∙ ap not is)
-is_none-false (Some x) none told is empty = absurd (cc)
+plus-none : (x r z : ℤ) → z ≡ pos 0 → r ≡ x → r ≡ x +ℤ z
+plus-none x r z none is = omega (arith, ints)
+
+-- the same where no twins are ahead
+pub reach-without_twins : (t : Problem) (prefix : List ℕ) (item : Item) (q : ℕ) (ahead : Ahead) (added span : Span) → slice_get (ordered t.items) (length prefix) ≡ Some item
+    → IsAhead t prefix item ahead → Spares t.hold ahead.ends q → ahead.twins ≡ 0 → added.low ≡ placed_moment t.hold (item, q) → added.high ≡ placed_moment t.hold (item, q)
+    → span.low ≡ ahead.reach.low +ℤ added.low → span.high ≡ ahead.reach.high +ℤ added.high → reach t (prefix ++ q ∷ []) ≡ Some (span.low, span.high)
+reach-without_twins t prefix item q ahead added span next is spares none added_low added_high low high =
+    let nothing : pos ahead.twins *ℤ pos 0 ≡ pos 0 = rw none refl in
+    reach-from_ahead t prefix item q ahead added (record { low = pos 0; high = pos 0 }) span next is spares (λ some. absurd (omega (arith, some, none))) added_low added_high
+    (plus-none (ahead.reach.low +ℤ added.low) span.low (pos ahead.twins *ℤ pos 0) nothing low)
+    (plus-none (ahead.reach.high +ℤ added.high) span.high (pos ahead.twins *ℤ pos 0) nothing high)

@@ -107,7 +107,7 @@ falls-next t prefix item other q a next =
     ∙ list_any-append (λ (p : Placed). are_twins p.0 other && nat_le a p.1) (placed t prefix) ((item, q) ∷ [])
     ∙ or-last (falls t prefix other a) (are_twins item other && nat_le a q)
 
-falls-next_twin : (t : Problem) (prefix : List ℕ) (item other : Item) (q a : ℕ) → slice_get (ordered t.items) (length prefix) ≡ Some item → AreTwins item other
+pub falls-next_twin : (t : Problem) (prefix : List ℕ) (item other : Item) (q a : ℕ) → slice_get (ordered t.items) (length prefix) ≡ Some item → AreTwins item other
     → falls t (prefix ++ q ∷ []) other a ≡ (falls t prefix other a || nat_le a q)
 falls-next_twin t prefix item other q a next twins =
     falls-next t prefix item other q a next ∙ ap (λ is. falls t prefix other a || (is && nat_le a q)) ((are_twins-Decides item other).1 twins)

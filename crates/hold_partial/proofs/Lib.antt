@@ -11,3 +11,4 @@ pub mod ClosedLemmas
 pub mod SideLemmas
 pub mod KeptLemmas
 pub mod AheadLemmas
+pub mod OutlookLemmas

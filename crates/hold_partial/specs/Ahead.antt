@@ -1,12 +1,13 @@
 -- what is ahead of a prefix, wherever its next container goes
-use Rattle.std.specs.Prelude.{◌≡◌, ◌≢◌, ℕ, ◌<◌, ◌≤◌, ◌+ℤ◌, ◌-ℤ◌, ◌≤ℤ◌, true, false, List, [], ◌∷◌, ◌++◌, length, Some}
+use Rattle.std.specs.Prelude.{◌≡◌, ◌≢◌, ℕ, ◌<◌, ◌≤◌, ℤ, pos, ◌+ℤ◌, ◌-ℤ◌, ◌*ℤ◌, ◌≤ℤ◌, true, false, List, [], ◌∷◌, ◌++◌, length, Some}
 use Rattle.hold_parts.specs.declared.parts.Item.{Item}
 use Rattle.hold_limits.specs.Layout.{Layout}
 use Rattle.hold_limits.specs.Problem.{Problem}
 use Rattle.hold_limits.specs.Enumeration.{exclude}
-use Rattle.hold_limits.specs.Placement.{placed_moment, hold_index, IsSound}
-use Rattle.hold_reach.specs.Extents.{IsBounded}
-use Rattle.hold_reach.specs.Reach.{is_open, reach}
+use Rattle.hold_limits.specs.Placement.{placed_moment, hold_index}
+use Rattle.hold_reach.specs.declared.span.Span.{Span}
+use Rattle.hold_reach.specs.Extents.{IsBounded, IsSpanOfList}
+use Rattle.hold_reach.specs.Reach.{amounts, is_open, reach}
 use Rattle.hold_partial.specs.declared.ahead.Ahead.{Ahead}
 use Rattle.hold_partial.specs.declared.ahead.Extremes.{Extremes}
 use Rattle.hold_partial.specs.declared.position_set.PositionSet.{PositionSet}
@@ -25,13 +26,18 @@ pub record AreExtremes (t : Problem) (prefix : List ℕ) (item : Item) (e : Extr
 abbrev pub Spares : Layout → PositionSet → ℕ → Type 0
 Spares hold ends q = (a : ℕ) → has ends a ≡ true → (a ≢ q) × (exclude hold a q ≡ false)
 
--- where the next container spares the ends, the reach is what is ahead, with the moment of that container
-pub record IsAhead (t : Problem) (prefix : List ℕ) (ahead : Ahead) : Type 0 where
-  pub candidates : (q : ℕ) → IsSound t (prefix ++ q ∷ []) → has ahead.candidates q ≡ true
-  pub few : length t.hold.positions ≤ 64
+-- the span goes from the least to the greatest moment that a twin of the container can have once that stands on the position
+abbrev pub IsSpanOfTwin : Problem → List ℕ → Item → ℕ → Span → Type 0
+IsSpanOfTwin t prefix item q each = IsSpanOfList (amounts t (is_open t (prefix ++ q ∷ [])) (placed_moment t.hold) item) (Some each)
+
+-- an end of the reach ahead, moved by the moment of the next container on the position and by what its twins add
+abbrev pub moved : Problem → List ℕ → ℕ → ℕ → ℤ → ℤ → ℤ
+moved t prefix q twins each end = ((end -ℤ hold_index t prefix) +ℤ hold_index t (prefix ++ q ∷ [])) +ℤ pos twins *ℤ each
+
+-- where the next container spares the ends, the reach is what is ahead, with the moment of that container and those of its twins
+pub record IsAhead (t : Problem) (prefix : List ℕ) (item : Item) (ahead : Ahead) : Type 0 where
   pub known : (a : ℕ) → has ahead.ends a ≡ true → a < length t.hold.positions
-  pub reach : (q : ℕ) → IsSound t (prefix ++ q ∷ []) → Spares t.hold ahead.ends q → reach t (prefix ++ q ∷ []) ≡ Some (
-    (ahead.reach.low -ℤ hold_index t prefix) +ℤ hold_index t (prefix ++ q ∷ []),
-    (ahead.reach.high -ℤ hold_index t prefix) +ℤ hold_index t (prefix ++ q ∷ []),
-  )
+  pub few : ahead.twins ≤ 60
+  pub reach : (q : ℕ) (each : Span) → Spares t.hold ahead.ends q → (0 < ahead.twins → IsSpanOfTwin t prefix item q each)
+      → reach t (prefix ++ q ∷ []) ≡ Some (moved t prefix q ahead.twins each.low ahead.reach.low, moved t prefix q ahead.twins each.high ahead.reach.high)
   pub bounded : IsBounded 368000000000 ahead.reach

@@ -6,3 +6,4 @@ pub mod Tables
 pub mod Levels
 pub mod Kept
 pub mod Ahead
+pub mod Outlook

@@ -1,14 +1,15 @@
 //! What is kept of a sound prefix of a task, which changes little with one container more or fewer.
 
-ghost use Rattle.std.specs.Prelude.{◌≡◌, ◌↔◌, ◌<◌, ◌≤◌, ◌+ℤ◌, ◌-ℤ◌, ◌++◌, ◌∷◌, [], ℕ, List, unsigned_abs, Some, None, true, false, IfSome, IsTrue, length, slice_get, option_map};
+ghost use Rattle.std.specs.Prelude.{◌≡◌, ◌↔◌, ◌<◌, ◌≤◌, ◌&&◌, ◌||◌, ◌==◌, ◌++◌, ◌∷◌, [], ℕ, List, not, unsigned_abs, Some, None, true, false, IfSome, IsTrue, length, slice_get, option_map};
 ghost use Rattle.hold_parts.specs.declared.parts.Item.{Item};
 ghost use Rattle.hold_limits.specs.BranchOrder.{ordered};
 ghost use Rattle.hold_limits.specs.Faults.{IsLawful};
-ghost use Rattle.hold_limits.specs.Placement.{IsSound, hold_index};
+ghost use Rattle.hold_limits.specs.Placement.{IsSound};
+ghost use Rattle.hold_limits.specs.Enumeration.{exclude};
 ghost use Rattle.hold_limits.specs.Twins.{IsRising};
 ghost use Rattle.hold_reach.specs.Extents.{may_stand, amount_of, so_far, reached, IsBounded, IsSpanOfList};
-ghost use Rattle.hold_reach.specs.Reach.{falls, is_open, amounts, lateral_reach, MeetsLateral};
-ghost use Rattle.hold_reach.specs.Rules.{rule_broken};
+ghost use Rattle.hold_reach.specs.Reach.{falls, is_open, amounts, lateral_reach, reach, MeetsLateral};
+ghost use Rattle.hold_reach.specs.Rules.{limit_broken, rule_broken};
 ghost use Rattle.hold_partial.specs.Ahead.{AreExtremes, IsAhead, Spares};
 ghost use Rattle.hold_partial.specs.Kept.{IsKept};
 ghost use Rattle.hold_partial.specs.Arrangement.{Ranked, at_rank};
@@ -71,6 +72,19 @@ impl<'a> Board<'a> {
         }
     }
 
+    /// The first limit that breaks where the next container follows on the position.
+    pub fn limit_against(&self, position: u8) -> Option<RuleBroken>
+        requires kept { IsKept self.now }
+        requires short { length self.now.prefix.items < length self.now.task.now.items }
+        requires known { position < length self.now.task.now.hold.positions }
+        ensures { result ≡ limit_broken self.now.task.now (self.now.prefix.items ++ position ∷ []) }
+    {
+        let limits = self.tables.limits[position as usize].as_slice();
+        let mass = self.tables.demands[self.prefix.len()].mass;
+        let place = first_over(&self.loads, &self.tables.allowed, limits, mass)?;
+        Some(rule_of(self.task.hold(), place))
+    }
+
     /// The first rule that breaks where the next container follows on the position.
     pub fn rule_against(&self, position: u8) -> Option<RuleBroken>
         requires kept { IsKept self.now }
@@ -98,9 +112,7 @@ impl<'a> Board<'a> {
         if let Some(other) = excluding.intersection(used).first() {
             return Some(RuleBroken::Excluded(other));
         }
-        let limits = self.tables.limits[position as usize].as_slice();
-        let place = first_over(&self.loads, &self.tables.allowed, limits, demand.mass)?;
-        Some(rule_of(self.task.hold(), place))
+        self.limit_against(position)
     }
 
     /// Places the next container on the position, which may follow.
@@ -269,72 +281,199 @@ impl<'a> Board<'a> {
         })
     }
 
-    /// What is ahead of the prefix while nothing is known of the containers after the next one.
-    fn ahead_of_next(&self) -> Ahead
+    /// The positions where the container of a rank of branch order may stand now, without those that the next container
+    /// on the position blocks, by their ranks in the order of influence.
+    fn unblocked(&self, extent: Extent, position: u8, item: usize) -> PositionSet
+        requires kept { IsKept self.now }
+        requires position { position < length self.now.task.now.hold.positions }
+        requires item { item < length self.now.task.now.items }
+        ensures { (container : Item) → slice_get (ordered self.now.task.now.items) item ≡ Some container
+            → Stands result (at_rank (λ a. may_stand extent self.now.task.now self.now.prefix.items container a
+            && not ((position == a) || exclude self.now.task.now.hold position a)) self.now.tables.ranks.items) }
+    {
+        let entry = &self.tables.positions[position as usize];
+        self.places_for(extent, item)
+            .difference(entry.blocked_ranks)
+    }
+
+    /// The positions that are open for the container of a rank of branch order once the next one stands on the position.
+    fn open_after(&self, position: u8, item: usize) -> PositionSet
         requires kept { IsKept self.now }
         requires short { length self.now.prefix.items < length self.now.task.now.items }
-        ensures candidates { (q : ℕ) → IsSound self.now.task.now (self.now.prefix.items ++ q ∷ [])
-            → has result.candidates q ≡ true }
-        ensures ends { (q : ℕ) → has result.ends q ≡ false }
-        ensures low { result.reach.low ≡ hold_index self.now.task.now self.now.prefix.items }
-        ensures high { result.reach.high ≡ hold_index self.now.task.now self.now.prefix.items }
+        requires position { position < length self.now.task.now.hold.positions }
+        requires item { item < length self.now.task.now.items }
+        ensures { (container : Item) → slice_get (ordered self.now.task.now.items) item ≡ Some container
+            → Stands result (at_rank (is_open self.now.task.now (self.now.prefix.items ++ position ∷ []) container)
+            self.now.tables.ranks.items) }
     {
+        let unblocked = self.unblocked(Extent::Reach, position, item);
         let next = self.prefix.len();
-        Ahead {
-            candidates: self.tables.demands[next]
-                .accepting
-                .difference(self.levels[next].used),
-            ends: PositionSet::empty(),
-            reach: Span::at(self.start_of(Extent::Reach)),
+        if self.tables.demands[item].twins == self.tables.demands[next].twins {
+            unblocked.difference(self.tables.positions[position as usize].closed_ranks)
+        } else {
+            unblocked
         }
     }
 
-    /// What is ahead of the prefix. None where a container after the next one has no open position, or is a twin of the
-    /// next one, which closes positions to its twins wherever it stands.
+    /// The positions where the container of a rank of branch order may stand once the next one stands on the position.
+    fn places_after(&self, extent: Extent, position: u8, item: usize) -> PositionSet
+        requires kept { IsKept self.now }
+        requires short { length self.now.prefix.items < length self.now.task.now.items }
+        requires position { position < length self.now.task.now.hold.positions }
+        requires item { item < length self.now.task.now.items }
+        ensures { (container : Item) → slice_get (ordered self.now.task.now.items) item ≡ Some container
+            → Stands result (at_rank (may_stand extent self.now.task.now (self.now.prefix.items ++ position ∷ [])
+            container) self.now.tables.ranks.items) }
+    {
+        match extent {
+            Extent::Reach => self.open_after(position, item),
+            Extent::WideReach | Extent::LateralReach => self.unblocked(extent, position, item),
+        }
+    }
+
+    /// What the container of a rank of branch order adds, from the least to the greatest, once the next one stands on the
+    /// position. None where it may then stand nowhere.
+    pub fn amounts_after(&self, extent: Extent, position: u8, item: usize) -> Option<Span>
+        requires kept { IsKept self.now }
+        requires short { length self.now.prefix.items < length self.now.task.now.items }
+        requires position { position < length self.now.task.now.hold.positions }
+        requires item { item < length self.now.task.now.items }
+        ensures { (container : Item) → slice_get (ordered self.now.task.now.items) item ≡ Some container
+            → IsSpanOfList (amounts self.now.task.now
+            (may_stand extent self.now.task.now (self.now.prefix.items ++ position ∷ []))
+            (amount_of extent self.now.task.now.hold) container) result }
+    {
+        let places = self.places_after(extent, position, item);
+        self.tables
+            .amounts_on(extent, self.tables.demands[item].mass, places)
+    }
+
+    /// What the next container adds on the position.
+    fn added_on(&self, extent: Extent, position: u8) -> i64
+        requires kept { IsKept self.now }
+        requires short { length self.now.prefix.items < length self.now.task.now.items }
+        requires position { position < length self.now.task.now.hold.positions }
+        ensures value { (item : Item)
+            → slice_get (ordered self.now.task.now.items) (length self.now.prefix.items) ≡ Some item
+            → result ≡ amount_of extent self.now.task.now.hold (item, position) }
+        ensures bounded { unsigned_abs result ≤ 2000000000 }
+    {
+        let mass = self.tables.demands[self.prefix.len()].mass;
+        let entry = &self.tables.positions[position as usize];
+        match extent {
+            Extent::Reach | Extent::WideReach => entry.moment(mass),
+            Extent::LateralReach => entry.lateral(mass),
+        }
+    }
+
+    /// What there is so far with the next container on the position.
+    fn start_after(&self, extent: Extent, position: u8) -> i64
+        requires kept { IsKept self.now }
+        requires short { length self.now.prefix.items < length self.now.task.now.items }
+        requires position { position < length self.now.task.now.hold.positions }
+        ensures value { result ≡ so_far extent self.now.task.now (self.now.prefix.items ++ position ∷ []) }
+        ensures bounded { unsigned_abs result ≤ 248000000000 }
+    {
+        self.start_of(extent) + self.added_on(extent, position)
+    }
+
+    /// The span with the next container on the position. None where a container after it may then stand nowhere.
+    pub fn span_after(&self, extent: Extent, position: u8) -> Option<Span>
+        requires kept { IsKept self.now }
+        requires short { length self.now.prefix.items < length self.now.task.now.items }
+        requires position { position < length self.now.task.now.hold.positions }
+        ensures value { option_map (λ span. (span.low, span.high)) result
+            ≡ reached extent self.now.task.now (self.now.prefix.items ++ position ∷ []) }
+        ensures bounded { IfSome result (IsBounded 368000000000) }
+    {
+        let mut span = Span::at(self.start_after(extent, position));
+        for item in self.prefix.len() + 1..self.tables.demands.len() {
+            span = span.plus(self.amounts_after(extent, position, item)?);
+        }
+        Some(span)
+    }
+
+    /// Whether some lateral difference in reach with the next container on the position is within the lateral limit of the
+    /// hold, if it has one.
+    pub fn can_meet_lateral_limit_after(&self, position: u8) -> bool
+        requires kept { IsKept self.now }
+        requires short { length self.now.prefix.items < length self.now.task.now.items }
+        requires position { position < length self.now.task.now.hold.positions }
+        ensures { IsTrue result ↔ MeetsLateral self.now.task.now.hold
+            (lateral_reach self.now.task.now (self.now.prefix.items ++ position ∷ [])) }
+    {
+        let hold = self.task.hold();
+        if hold.lateral().is_none() {
+            return true;
+        }
+        match self.span_after(Extent::LateralReach, position) {
+            Some(span) => meets_lateral_limit(hold, span),
+            None => false,
+        }
+    }
+
+    /// The positions that are open for the next container, by their ranks in the order of influence.
+    pub fn open_for_next(&self) -> PositionSet
+        requires kept { IsKept self.now }
+        requires short { length self.now.prefix.items < length self.now.task.now.items }
+        ensures { (item : Item) → slice_get (ordered self.now.task.now.items) (length self.now.prefix.items) ≡ Some item
+            → Stands result (at_rank (is_open self.now.task.now self.now.prefix.items item)
+            self.now.tables.ranks.items) }
+    {
+        self.places_for(Extent::Reach, self.prefix.len())
+    }
+
+    /// What is ahead of the prefix. None where a container after the next one that is no twin of it has no open position.
     pub fn ahead(&self) -> Option<Ahead>
         requires kept { IsKept self.now }
         requires short { length self.now.prefix.items < length self.now.task.now.items }
-        ensures { IfSome result (IsAhead self.now.task.now self.now.prefix.items) }
+        ensures { (item : Item) → slice_get (ordered self.now.task.now.items) (length self.now.prefix.items) ≡ Some item
+            → IfSome result (IsAhead self.now.task.now self.now.prefix.items item) }
     {
         let next = self.prefix.len();
         let class = self.tables.demands[next].twins;
-        let mut ahead = self.ahead_of_next();
+        let mut ahead = Ahead::of_index(self.start_of(Extent::Reach));
         for item in next + 1..self.tables.demands.len() {
             if self.tables.demands[item].twins == class {
-                return None;
+                ahead = ahead.with_twin();
+            } else {
+                ahead = ahead.with(self.extremes_of(item)?);
             }
-            ahead = ahead.with(self.extremes_of(item)?);
         }
         Some(ahead)
     }
 
-    /// Whether the next container on the position leaves the reach ahead as it is, and the hold has no lateral limit.
-    pub fn spares(&self, ahead: &Ahead, position: u8) -> bool
+    /// Whether the next container on the position leaves the ends ahead as they are.
+    fn spares(&self, ahead: &Ahead, position: u8) -> bool
         requires kept { IsKept self.now }
-        requires known { position < length self.now.task.now.hold.positions }
-        requires ahead { IsAhead self.now.task.now self.now.prefix.items ahead.now }
-        ensures spared { IsTrue result → Spares self.now.task.now.hold ahead.now.ends position }
-        ensures unlimited { IsTrue result → self.now.task.now.hold.lateral ≡ None }
+        requires position { position < length self.now.task.now.hold.positions }
+        requires ends { (a : ℕ) → has ahead.now.ends a ≡ true → a < length self.now.task.now.hold.positions }
+        ensures { IsTrue result → Spares self.now.task.now.hold ahead.now.ends position }
     {
         let excluding = self.tables.positions[position as usize].excluding;
-        self.task.hold().lateral().is_none()
-            && !ahead.ends.contains(position)
-            && ahead.ends.intersection(excluding).is_empty()
+        !ahead.ends.contains(position) && ahead.ends.intersection(excluding).is_empty()
     }
 
-    /// The reach ahead with the next container on the position.
-    pub fn span_ahead(&self, ahead: &Ahead, position: u8) -> Span
+    /// The reach with the next container on the position. None where what is ahead does not tell it.
+    pub fn reach_ahead(&self, ahead: &Ahead, position: u8) -> Option<Span>
         requires kept { IsKept self.now }
-        requires sound { IsSound self.now.task.now (self.now.prefix.items ++ position ∷ []) }
-        requires ahead { IsAhead self.now.task.now self.now.prefix.items ahead.now }
-        ensures low { result.low ≡ (ahead.now.reach.low -ℤ hold_index self.now.task.now self.now.prefix.items)
-            +ℤ hold_index self.now.task.now (self.now.prefix.items ++ position ∷ []) }
-        ensures high { result.high ≡ (ahead.now.reach.high -ℤ hold_index self.now.task.now self.now.prefix.items)
-            +ℤ hold_index self.now.task.now (self.now.prefix.items ++ position ∷ []) }
-        ensures bounded { IsBounded 900000000000 result }
+        requires short { length self.now.prefix.items < length self.now.task.now.items }
+        requires position { position < length self.now.task.now.hold.positions }
+        requires ahead { (item : Item)
+            → slice_get (ordered self.now.task.now.items) (length self.now.prefix.items) ≡ Some item
+            → IsAhead self.now.task.now self.now.prefix.items item ahead.now }
+        ensures value { IfSome result (λ span. reach self.now.task.now (self.now.prefix.items ++ position ∷ [])
+            ≡ Some (span.low, span.high)) }
+        ensures bounded { IfSome result (IsBounded 490000000000) }
     {
-        let mass = self.tables.demands[self.prefix.len()].mass;
-        let moment = self.tables.positions[position as usize].moment(mass);
-        ahead.reach.plus(Span::at(moment))
+        if !self.spares(ahead, position) {
+            return None;
+        }
+        let added = Span::at(self.added_on(Extent::Reach, position));
+        if ahead.twins == 0 {
+            return Some(ahead.reach.plus(added));
+        }
+        let each_twin = self.amounts_after(Extent::Reach, position, self.prefix.len())?;
+        Some(ahead.reach_with(added, each_twin))
     }
 }

@@ -1,6 +1,6 @@
 //! Where the containers of a task may stand, ready to look up.
 
-ghost use Rattle.std.specs.Prelude.{◌≡◌, ℕ, length};
+ghost use Rattle.std.specs.Prelude.{◌≡◌};
 ghost use Rattle.hold_limits.specs.Enumeration.{is_accepted};
 ghost use Rattle.hold_limits.specs.Faults.{IsLawfulHold};
 ghost use Rattle.hold_partial.specs.Arrangement.{IsByInfluence};

@@ -11,15 +11,16 @@ mod level;
 mod limit_table;
 mod loads;
 mod moves;
+mod outlook;
 mod partial;
 mod position_set;
 mod position_table;
 mod sides;
 mod tables;
 
-pub use ahead::Ahead;
 pub use hold_reach::{RuleBroken, reach_laws};
-pub use moves::{advances, keep_first, move_to, next_bound};
+pub use moves::{advances, keep_first, move_to};
+pub use outlook::Outlook;
 pub use partial::Partial;
 
 #[cfg(test)]

@@ -1,6 +1,6 @@
 //! The limits of a hold in one list, the combined ones first, ready to look up by position.
 
-ghost use Rattle.std.specs.Prelude.{◌≡◌, ◌<◌, ◌≤◌, ℕ, Some, [], length, slice_get, slice_index, slice_index_or};
+ghost use Rattle.std.specs.Prelude.{◌≡◌, ◌<◌, ◌≤◌, Some, [], length, slice_get};
 ghost use Rattle.hold_limits.specs.Faults.{IsLawfulHold};
 ghost use Rattle.hold_partial.specs.Limits.{limits_of, limits_on, rule_at, AreLoads, AreAllowed};
 ghost use Rattle.hold_parts.specs.Limits.{is_limited, most_of};

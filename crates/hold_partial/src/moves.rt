@@ -1,12 +1,10 @@
 //! Moving a partial placement from one prefix to another.
 
-ghost use Rattle.std.specs.Prelude.{◌≡◌, ◌<◌, ◌≤◌, ◌++◌, ◌∷◌, [], IfNone, IfSome, IsTrue, Some, false, length, take};
+ghost use Rattle.std.specs.Prelude.{◌≡◌, ◌<◌, ◌≤◌, ◌++◌, ◌∷◌, [], IsTrue, false, length, take};
 ghost use Rattle.hold_limits.specs.Placement.{IsSound};
 ghost use Rattle.hold_partial.specs.Placing.{placing_of};
-ghost use Rattle.hold_reach.specs.Reach.{IsViable, bound};
-ghost use Rattle.hold_partial.specs.Ahead.{IsAhead};
+ghost use Rattle.hold_reach.specs.Reach.{IsViable};
 
-use crate::ahead::Ahead;
 use crate::partial::Partial;
 
 /// With how many numbers both begin.
@@ -59,62 +57,4 @@ pub fn advances(partial: &mut Partial<'_>, number: u8) -> bool
     ensures unviable { result ≡ false → IsViable partial.old.task (partial.old.prefix ++ number ∷ []) → ⊥ }
 {
     !partial.falls(number) && partial.try_place(number).is_ok()
-}
-
-/// The same as `next_bound`, by way of the longer prefix.
-fn bound_placed(partial: &mut Partial<'_>, number: u8) -> Option<u64>
-    requires { length partial.old.prefix < length partial.old.task.items }
-    ensures same { partial.new ≡ partial.old }
-    ensures found { IfSome result (λ b.
-        IsViable partial.old.task (partial.old.prefix ++ number ∷ [])
-        × (bound partial.old.task (partial.old.prefix ++ number ∷ []) ≡ Some b)) }
-    ensures none { IfNone result
-        (IsViable partial.old.task (partial.old.prefix ++ number ∷ []) → ⊥) }
-{
-    if !advances(partial, number) {
-        return None;
-    }
-    let bound = partial.viable_bound();
-    partial.undo();
-    bound
-}
-
-/// The same as `next_bound`, by what is ahead where that tells.
-fn bound_ahead(partial: &mut Partial<'_>, ahead: &Ahead, number: u8) -> Option<u64>
-    requires left { length partial.old.prefix < length partial.old.task.items }
-    requires known { number < length partial.old.task.hold.positions }
-    requires ahead { IsAhead partial.old.task partial.old.prefix ahead.now }
-    ensures same { partial.new ≡ partial.old }
-    ensures found { IfSome result (λ b.
-        IsViable partial.old.task (partial.old.prefix ++ number ∷ [])
-        × (bound partial.old.task (partial.old.prefix ++ number ∷ []) ≡ Some b)) }
-    ensures none { IfNone result
-        (IsViable partial.old.task (partial.old.prefix ++ number ∷ []) → ⊥) }
-{
-    if !partial.is_candidate(ahead, number) {
-        return None;
-    }
-    if partial.spares(ahead, number) {
-        return partial.bound_ahead(ahead, number);
-    }
-    bound_placed(partial, number)
-}
-
-/// The bound of the prefix with the next container on the position, in ticks, where that is viable. It is quick with what
-/// is ahead of the placement.
-pub fn next_bound(partial: &mut Partial<'_>, ahead: Option<&Ahead>, number: u8) -> Option<u64>
-    requires left { length partial.old.prefix < length partial.old.task.items }
-    requires known { number < length partial.old.task.hold.positions }
-    requires ahead { IfSome ahead (λ a. IsAhead partial.old.task partial.old.prefix a.now) }
-    ensures same { partial.new ≡ partial.old }
-    ensures found { IfSome result (λ b.
-        IsViable partial.old.task (partial.old.prefix ++ number ∷ [])
-        × (bound partial.old.task (partial.old.prefix ++ number ∷ []) ≡ Some b)) }
-    ensures none { IfNone result
-        (IsViable partial.old.task (partial.old.prefix ++ number ∷ []) → ⊥) }
-{
-    match ahead {
-        Some(ahead) => bound_ahead(partial, ahead, number),
-        None => bound_placed(partial, number),
-    }
 }

@@ -1,19 +1,17 @@
 //! The partial placement: a sound prefix of a task, one position more or one fewer at a time.
 
-ghost use Rattle.std.specs.Prelude.{◌≡◌, ◌↔◌, ◌<◌, ◌≤◌, ◌++◌, ◌∷◌, [], ℕ, Some, None, false, IsTrue, IfOk, IfErr, IfSome, IfNone, IsOk, length, slice_get, option_map};
+ghost use Rattle.std.specs.Prelude.{◌≡◌, ◌↔◌, ◌<◌, ◌≤◌, ◌++◌, ◌∷◌, [], ℕ, Some, None, IfOk, IfErr, IfSome, IfNone, IsOk, length, slice_get, option_map};
 ghost use Rattle.std.specs.Result.{OnOk, OnErr};
 ghost use Rattle.hold_parts.specs.declared.parts.Item.{Item};
 ghost use Rattle.hold_limits.specs.BranchOrder.{ordered};
 ghost use Rattle.hold_limits.specs.Faults.{IsLawful};
 ghost use Rattle.hold_limits.specs.Placement.{IsSound};
-ghost use Rattle.hold_limits.specs.Twins.{IsRising};
-ghost use Rattle.hold_partial.specs.Ahead.{IsAhead, Spares};
 ghost use Rattle.hold_partial.specs.Placing.{placing_of};
 ghost use Rattle.hold_reach.specs.Reach.{falls, is_open, reach, wide_reach, lateral_reach, bound, wide_bound, IsViable};
 ghost use Rattle.hold_reach.specs.Rules.{limit_broken, rule_broken};
 
-use crate::ahead::Ahead;
 use crate::board::Board;
+use crate::outlook::Outlook;
 use hold_limits::Task;
 use hold_reach::reference::broken_limit;
 use hold_reach::{Extent, RuleBroken, gap_to_ideal, meets_window};
@@ -182,67 +180,11 @@ impl<'a> Partial<'a> {
         Some(gap_to_ideal(self.board.task, span))
     }
 
-    /// What is ahead of the placement, with which `bound_ahead` is quick. None where that would not be known.
-    pub fn ahead(&self) -> Option<Ahead>
+    /// What becomes of the placement with its next container on each position.
+    pub fn outlook(&self) -> Outlook<'_, 'a>
         requires { length self.now.prefix < length self.now.task.items }
-        ensures { IfSome result (IsAhead self.now.task self.now.prefix) }
+        ensures { result ≡ self.now }
     {
-        self.board.ahead()
-    }
-
-    /// Whether the next container may follow on the position at all.
-    pub fn is_candidate(&self, ahead: &Ahead, number: u8) -> bool
-        requires known { number < length self.now.task.hold.positions }
-        requires ahead { IsAhead self.now.task self.now.prefix ahead.now }
-        ensures { result ≡ false → IsViable self.now.task (self.now.prefix ++ number ∷ []) → ⊥ }
-    {
-        ahead.candidates.contains(number)
-    }
-
-    /// Whether `bound_ahead` tells what comes of the next container on the position.
-    pub fn spares(&self, ahead: &Ahead, number: u8) -> bool
-        requires known { number < length self.now.task.hold.positions }
-        requires ahead { IsAhead self.now.task self.now.prefix ahead.now }
-        ensures spared { IsTrue result → Spares self.now.task.hold ahead.now.ends number }
-        ensures unlimited { IsTrue result → self.now.task.hold.lateral ≡ None }
-    {
-        self.board.spares(ahead, number)
-    }
-
-    /// Whether the next container may follow on the position, where the placement stays rising if it is.
-    fn may_follow(&self, number: u8) -> bool
-        requires { length self.now.prefix < length self.now.task.items }
-        ensures sound { IsTrue result → IsSound self.now.task (self.now.prefix ++ number ∷ []) }
-        ensures rising { IsTrue result → IsRising self.now.task self.now.prefix
-            → IsRising self.now.task (self.now.prefix ++ number ∷ []) }
-        ensures unviable { result ≡ false
-            → IsViable self.now.task (self.now.prefix ++ number ∷ []) → ⊥ }
-    {
-        !self.falls(number) && self.board.rule_against(number).is_none()
-    }
-
-    /// The bound of the prefix with the next container on the position, in ticks, where that is viable.
-    pub fn bound_ahead(&self, ahead: &Ahead, number: u8) -> Option<u64>
-        requires left { length self.now.prefix < length self.now.task.items }
-        requires ahead { IsAhead self.now.task self.now.prefix ahead.now }
-        requires spared { Spares self.now.task.hold ahead.now.ends number }
-        requires unlimited { self.now.task.hold.lateral ≡ None }
-        ensures found { IfSome result (λ b.
-            IsViable self.now.task (self.now.prefix ++ number ∷ [])
-            × (bound self.now.task (self.now.prefix ++ number ∷ []) ≡ Some b)) }
-        ensures none { IfNone result
-            (IsViable self.now.task (self.now.prefix ++ number ∷ []) → ⊥) }
-    {
-        if !self.may_follow(number) {
-            return None;
-        }
-        if !self.board.is_rising() {
-            return None;
-        }
-        let span = self.board.span_ahead(ahead, number);
-        if !meets_window(self.board.task, span) {
-            return None;
-        }
-        Some(gap_to_ideal(self.board.task, span))
+        Outlook::of(&self.board)
     }
 }

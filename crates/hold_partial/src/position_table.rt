@@ -1,6 +1,6 @@
 //! What a container on a position does to the other containers, ready to look up.
 
-ghost use Rattle.std.specs.Prelude.{◌≡◌, ◌<◌, ◌≤◌, ◌&&◌, ◌||◌, ◌==◌, nat_lt, nat_le, ℕ, pos, ◌*ℤ◌, unsigned_abs, Some, length, slice_get};
+ghost use Rattle.std.specs.Prelude.{◌≡◌, ◌<◌, ◌≤◌, ◌&&◌, ◌==◌, nat_lt, nat_le, pos, ◌*ℤ◌, unsigned_abs, Some, length, slice_get};
 ghost use Rattle.hold_limits.specs.Enumeration.{exclude};
 ghost use Rattle.hold_limits.specs.Faults.{IsLawfulHold};
 ghost use Rattle.hold_partial.specs.Arrangement.{IsByInfluence, ranked_of};

@@ -4,7 +4,7 @@ ghost use Rattle.std.specs.Prelude.{◌<◌, ◌≤◌, ◌≡◌, All, IfOk, le
 ghost use Rattle.hold_parts.specs.declared.lists.Fit.{Fit};
 ghost use Rattle.hold_parts.specs.Spellings.{IsKind};
 
-use crate::moves::next_bound;
+use crate::moves::advances;
 use crate::partial::Partial;
 use hold_limits::{
     Combined, Cumulative, Fit, Hold, Item, Lateral, Loose, Name, Position, Task, UldId,
@@ -260,7 +260,7 @@ fn falls_agree(partial: &Partial<'_>) -> bool {
     true
 }
 
-// What is ahead tells the bound that the longer prefix has.
+// The outlook tells the bound that the longer prefix has.
 fn next_agrees(partial: &mut Partial<'_>, number: u8) -> bool
     requires { length partial.old.prefix < length partial.old.task.items }
     ensures { partial.new ≡ partial.old }
@@ -268,12 +268,13 @@ fn next_agrees(partial: &mut Partial<'_>, number: u8) -> bool
     if number >= partial.task().hold().position_count() {
         return true;
     }
-    match partial.ahead() {
-        Some(ahead) => {
-            next_bound(partial, Some(&ahead), number) == next_bound(partial, None, number)
-        }
-        None => true,
+    let told = partial.outlook().bound_on(number);
+    if !advances(partial, number) {
+        return told.is_none();
     }
+    let placed = partial.viable_bound();
+    partial.undo();
+    told == placed
 }
 
 fn agrees(partial: &Partial<'_>) -> bool {

@@ -1,5 +1,5 @@
 -- lists of different elements, and their lengths
-use Rattle.std.proofs.Common.{refl, ◌≡◌, ◌≢◌, ◌⊎◌, inl, inr, ⊎_elim, ℕ, ◌+◌, ◌<◌, ◌≤◌, List, [], ◌∷◌, ◌++◌, length, get_or, map, sym, ap, ◌∙◌, subst, arith, length-append, ap₂, Ordering, Less, Equal, Greater, nat_cmp, true, false}
+use Rattle.std.proofs.Common.{refl, ◌≡◌, ◌≢◌, ◌⊎◌, inl, inr, ⊎_elim, ℕ, ◌≤◌, List, [], ◌∷◌, ◌++◌, length, get_or, sym, ap, subst, arith, length-append, ap₂, Ordering, Less, Equal, Greater, nat_cmp, false}
 use Rattle.std.proofs.lemmas.Bool.{true≢false}
 use Rattle.std.proofs.lemmas.List.Elements.{All-nil, All-cons, All-head, All-tail, All-append, All-weaker, All-contains, Contains-append_right, Contains-append_cases, Contains-push_cases}
 use Rattle.std.proofs.lemmas.List.Kept.{AllPairs-cons}
@@ -14,7 +14,7 @@ use Rattle.std.specs.Ordering.{is_lt, ordering_reverse}
 use Rattle.std.specs.Cmp.Lexicographic.{slice_cmp}
 use Rattle.certificate.specs.Good.{IsBefore}
 use Rattle.hold_limits.proofs.KeyOrder.{slice_cmp_equal}
-use Rattle.std.specs.List.{remove, swap}
+use Rattle.std.specs.List.{remove}
 use Rattle.desk_base.proofs.PairLemmas.{AllPairs-head, AllPairs-tail}
 
 pub Contains-cons_cases : {X : Type 0} (x : X) (xs : List X) (y : X) → Contains (x ∷ xs) y → (x ≡ y) ⊎ Contains xs y

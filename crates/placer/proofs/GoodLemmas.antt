@@ -1,20 +1,19 @@
 -- the near certificate is good
-use Rattle.std.proofs.Common.{refl, ◌≡◌, ◌≢◌, ◌⊎◌, ⊎_elim, ℕ, ◌<◌, ◌≤◌, ◌≤ℤ◌, List, [], ◌∷◌, ◌++◌, length, get_or, Option, Some, None, sym, ap, ◌∙◌, subst, arith, append_assoc, append-nil, length-append, Less, Equal, nat_cmp}
+use Rattle.std.proofs.Common.{refl, ◌≡◌, ⊎_elim, ℕ, ◌<◌, ◌≤ℤ◌, List, [], ◌∷◌, ◌++◌, length, get_or, Option, Some, None, sym, ap, ◌∙◌, subst, arith, append_assoc, append-nil, length-append, Less, Equal, nat_cmp}
 use Rattle.std.proofs.lemmas.Cmp.{nat_list_cmp_total, tied_itself}
 use Rattle.std.proofs.lemmas.List.Elements.{All-contains, All-weaker, Contains-get_or}
-use Rattle.std.specs.Prelude.{All, AllPairs, Contains, IfSome, IsSomeAnd, MatchOption}
+use Rattle.std.specs.Prelude.{Contains, IfSome, IsSomeAnd, MatchOption}
 use Rattle.std.specs.Cmp.Lexicographic.{slice_cmp}
 use Rattle.desk_base.specs.Lists.{Extends}
 use Rattle.hold_limits.specs.Problem.{Problem}
 use Rattle.hold_limits.specs.Placement.{IsAtMost, IsAdmissible, IsBest, key}
 use Rattle.hold_limits.proofs.KeyOrder.{IsAtMost-total}
-use Rattle.hold_reach.specs.Reach.{IsViable, bound}
+use Rattle.hold_reach.specs.Reach.{IsViable}
 use Rattle.certificate.specs.declared.parts.Certificate.{Certificate}
 use Rattle.certificate.specs.Evidence.{claimed}
-use Rattle.certificate.specs.Good.{IsBefore, IsUncut, IsIncomplete, AreInOrder, HoldsNothingBetter, IsNoBetter, IsExpanded, AreAtMost, IsGood}
+use Rattle.certificate.specs.Good.{IsBefore, IsUncut, IsIncomplete, HoldsNothingBetter, IsNoBetter, IsExpanded, IsGood}
 use Rattle.cert_checker.specs.Claims.{HasNoPlacement}
 use Rattle.placer.specs.Near.{IsNear, IsNearAndIncomplete, IsNearCut, IsNearCertificate}
-use Rattle.cert_checker.specs.FirstReason.{AreExactly}
 use Rattle.placer.proofs.CountLemmas.{length-within, All-from_contains}
 use Rattle.placer.proofs.NearLemmas.{IsViable-begins, IsNear-begins, IsNear-from, bound-exists, near-or-not, empty-near, one_best}
 

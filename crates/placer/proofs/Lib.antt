@@ -4,4 +4,3 @@ pub mod GoodLemmas
 pub mod NearLemmas
 pub mod QueueLemmas
 pub mod SearchLemmas
-pub mod LentLemmas

@@ -1,5 +1,5 @@
 -- fronts of viable and of near prefixes
-use Rattle.std.proofs.Common.{refl, ◌≡◌, ◌⊎◌, inl, inr, ⊎_elim, ℕ, ◌≤◌, ℤ, ◌≤ℤ◌, true, false, List, [], ◌∷◌, ◌++◌, length, Option, Some, None, option_map, sym, ap, ◌∙◌, subst, arith, append_assoc, append-nil, is_gt, Ordering, nat_cmp}
+use Rattle.std.proofs.Common.{refl, ◌≡◌, ◌⊎◌, inl, inr, ⊎_elim, ℕ, ◌≤◌, ℤ, ◌≤ℤ◌, true, false, List, [], ◌∷◌, ◌++◌, Option, Some, None, option_map, sym, ap, ◌∙◌, subst, arith, append_assoc, append-nil, is_gt, Ordering, nat_cmp}
 use Rattle.std.proofs.lemmas.Bool.{cases_Bool, true≢false}
 use Rattle.std.proofs.lemmas.Bool.Decides.{nat_tests}
 use Rattle.std.proofs.lemmas.Cmp.{nat_cmp_total, tied_itself}
@@ -7,17 +7,16 @@ use Rattle.std.proofs.lemmas.Int.{ints}
 use Rattle.std.specs.Prelude.{IfSome, IsSomeAnd, MatchOption}
 use Rattle.std.specs.Ordering.{ordering_then}
 use Rattle.std.specs.Cmp.Lexicographic.{slice_cmp}
-use Rattle.desk_base.specs.Lists.{Extends}
 use Rattle.hold_parts.specs.declared.parts.Lateral.{Lateral}
 use Rattle.hold_limits.specs.Problem.{Problem}
-use Rattle.hold_limits.specs.Placement.{Key, key_cmp, IsAtMost, IsSound, IsAdmissible, IsBest, key, distance}
+use Rattle.hold_limits.specs.Placement.{Key, key_cmp, IsAtMost, IsAdmissible, IsBest, key, distance}
 use Rattle.hold_limits.specs.Twins.{IsRising}
 use Rattle.hold_limits.specs.Enumeration.{best_by_trial}
-use Rattle.hold_limits.proofs.KeyOrder.{IsAtMost-trans, IsAtMost-total, IsAtMost-antisymm}
+use Rattle.hold_limits.proofs.KeyOrder.{IsAtMost-trans, IsAtMost-antisymm}
 use Rattle.hold_limits.proofs.SoundLemmas.{IsSound-front}
 use Rattle.hold_limits.proofs.EnumerationLemmas.{best_by_trial-is}
 use Rattle.hold_limits.proofs.ExchangeLemmas.{best-rises}
-use Rattle.hold_reach.specs.Reach.{HaveCommonNumber, Meets, MeetsLateral, IsViable, reach, lateral_reach, gap_to_ideal, bound}
+use Rattle.hold_reach.specs.Reach.{Meets, IsViable, reach, lateral_reach, gap_to_ideal, bound}
 use Rattle.hold_reach.specs.Choices.{LiesIn, IsNearest}
 use Rattle.hold_reach.proofs.ViableLemmas.{IsRising-front, IsViable-front, reach-shorter, lateral_reach-shorter, bound-nearest, bound-complete}
 use Rattle.cert_checker.specs.Claims.{HasNoPlacement}

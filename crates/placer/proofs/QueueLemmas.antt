@@ -1,17 +1,16 @@
 -- what the order of a heap says of the keys in it
-use Rattle.std.proofs.Common.{◌≡◌, ℕ, zero, suc, ◌+◌, ◌<◌, length, get_or, true, false, List, [], ◌∷◌, map, sym, ap, ◌∙◌, subst, arith, Ordering, Less, Equal, Greater, is_gt, nat_cmp, refl}
+use Rattle.std.proofs.Common.{◌≡◌, ℕ, zero, suc, ◌+◌, ◌<◌, length, get_or, false, List, [], ◌∷◌, map, ap, arith, Ordering, Less, Equal, Greater, is_gt, refl}
 use Rattle.std.proofs.lemmas.List.{length-map}
 use Rattle.std.proofs.lemmas.Bool.{true≢false}
 use Rattle.std.proofs.lemmas.List.Elements.{All-nil, All-cons}
-use Rattle.std.specs.Ordering.{is_lt, ordering_reverse, ordering_then}
+use Rattle.std.specs.Ordering.{is_lt, ordering_reverse}
 use Rattle.std.specs.Prelude.{All, IsSorted}
 use Rattle.std.specs.BinaryHeap.{IsUpperBound}
-use Rattle.std.specs.Cmp.Lexicographic.{slice_cmp}
 use Rattle.std.specs.declared.cmp.Reverse.{Reverse}
 use Rattle.hold_limits.specs.Placement.{Key, key_cmp, IsAtMost}
 use Rattle.hold_limits.proofs.KeyOrder.{key_cmp_total}
 use Rattle.placer.specs.declared.queue.Waiting.{Waiting}
-use Rattle.placer.specs.Keys.{key_of, key_of_entry}
+use Rattle.placer.specs.Keys.{key_of_entry}
 
 turned : (o p : Ordering) → o ≡ ordering_reverse p → is_lt p ≡ false → is_gt o ≡ false
 turned o Less is not = absurd (true≢false not)

@@ -1,13 +1,12 @@
 -- what a best-first search knows between its steps
-use Rattle.std.proofs.Common.{refl, ◌≡◌, ◌≢◌, ◌↔◌, ◌⊎◌, inl, inr, ⊎_elim, ℕ, ◌+◌, ◌<◌, ◌≤◌, ◌≤ℤ◌, List, [], ◌∷◌, ◌++◌, length, map, Some, sym, ap, ap₂, ◌∙◌, subst, arith, append_assoc, append-nil, length-append, below_more}
+use Rattle.std.proofs.Common.{◌≡◌, ◌≢◌, ⊎_elim, ℕ, ◌+◌, ◌<◌, ◌≤ℤ◌, List, [], ◌∷◌, ◌++◌, length, Some, sym, ap, ap₂, ◌∙◌, subst, arith, append_assoc, length-append, below_more}
 use Rattle.std.proofs.lemmas.List.{map-append}
 use Rattle.std.proofs.lemmas.List.Elements.{All-nil, All-cons, All-head, All-tail, All-append, All-contains, All-map, All-weaker, Contains-append_left, Contains-append_right, Contains-append_cases, Contains-push}
 use Rattle.std.proofs.lemmas.List.Kept.{AllPairs-cons}
 use Rattle.std.proofs.lemmas.List.Sorted.{IsPermutation-refl, IsPermutation-sym, IsPermutation-trans, IsPermutation-cons, IsPermutation-map, IsPermutation-append_left, IsPermutation-append_right, IsPermutation-append_comm, IsPermutation-middle, All-permutation, Contains-permutation}
-use Rattle.std.specs.Prelude.{All, AllPairs, Contains, IsPermutation}
-use Rattle.desk_base.specs.Lists.{Extends}
+use Rattle.std.specs.Prelude.{All, Contains, IsPermutation}
 use Rattle.hold_limits.specs.Problem.{Problem}
-use Rattle.hold_limits.specs.Placement.{Key, IsAtMost, IsSound}
+use Rattle.hold_limits.specs.Placement.{Key, IsAtMost}
 use Rattle.hold_limits.proofs.KeyOrder.{IsAtMost-refl, IsAtMost-trans}
 use Rattle.hold_limits.proofs.SoundLemmas.{IsSound-within}
 use Rattle.hold_reach.specs.Reach.{IsViable, bound}
@@ -15,7 +14,7 @@ use Rattle.certificate.specs.Good.{IsIncomplete}
 use Rattle.placer.specs.Keys.{prefixes}
 use Rattle.placer.specs.Search.{IsPrefix, IsNext, AreChildren, AddsChildren, IsSearched}
 use Rattle.placer.proofs.CountLemmas.{Contains-cons, Contains-later, Contains-cons_cases, Contains-nil, AllPairs-append, All-from_contains, apart-append, different-permutation, last-same}
-use Rattle.placer.proofs.NearLemmas.{IsViable-begins, bound-exists, front-at_most}
+use Rattle.placer.proofs.NearLemmas.{front-at_most}
 
 -- Children --------------------------------------------------------------------------------------
 

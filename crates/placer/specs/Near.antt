@@ -1,5 +1,5 @@
 -- near prefixes: those at which every search with this bound must look
-use Rattle.std.specs.Prelude.{◌≡◌, ◌≢◌, ◌↔◌, ℕ, ◌<◌, List, [], ◌∷◌, ◌++◌, length, All, AllPairs, Contains, Option, MatchOption, IsSomeAnd}
+use Rattle.std.specs.Prelude.{◌≡◌, ◌≢◌, ◌↔◌, ℕ, ◌<◌, List, [], ◌∷◌, ◌++◌, length, All, AllPairs, Contains, MatchOption, IsSomeAnd}
 use Rattle.hold_limits.specs.Problem.{Problem}
 use Rattle.hold_limits.specs.Placement.{IsAtMost, IsBest, key}
 use Rattle.hold_reach.specs.Reach.{IsViable, bound}

@@ -1,7 +1,6 @@
 //! The text of an answer.
 
-ghost use Rattle.std.specs.Prelude.{◌≡◌, ◌++◌, OnOk, IfOk};
-ghost use Rattle.cert_checker.specs.Claims.{IsGoodFor};
+ghost use Rattle.std.specs.Prelude.{◌≡◌, IfOk};
 ghost use Rattle.placer.specs.Answers.{IfBest, IfNoneFits};
 ghost use Rattle.placer.specs.AnswerText.{answer_text, budget_text};
 

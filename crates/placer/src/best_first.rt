@@ -5,13 +5,12 @@
 //! list precedes its extensions. So what is taken out is near, and the first complete prefix that is taken out is the
 //! best path. What is left in the queue and leaves containers is where the search turned back.
 
-ghost use Rattle.std.specs.Prelude.{◌≡◌, ◌<◌, ◌≤◌, ◌++◌, ◌∷◌, [], None, All, IfNone, IfOk, IfSome, IsPermutation, IsSorted, Some, length, nat_lt};
+ghost use Rattle.std.specs.Prelude.{◌≡◌, ◌<◌, ◌≤◌, ◌++◌, ◌∷◌, [], None, IfNone, IfOk, IfSome, IsPermutation, IsSorted, Some, length, nat_lt};
 ghost use Rattle.std.specs.List.{filter};
 ghost use Rattle.std.specs.Ordering.{nat_cmp};
 ghost use Rattle.std.specs.Cmp.Lexicographic.{slice_cmp};
 ghost use Rattle.std.specs.Result.{OnOk};
-ghost use Rattle.hold_limits.specs.Placement.{IsAtMost, IsSound};
-ghost use Rattle.hold_partial.specs.Ahead.{IsAhead};
+ghost use Rattle.hold_limits.specs.Placement.{IsSound};
 ghost use Rattle.hold_partial.specs.Placing.{placing_of};
 ghost use Rattle.hold_reach.specs.Reach.{IsViable};
 ghost use Rattle.certificate.specs.Evidence.{claimed};
@@ -25,7 +24,7 @@ use crate::queue::{Queue, Waiting};
 use certificate::{Certificate, Claim, Cuts};
 use desk_base::NoMemory;
 use hold_limits::{Path, Task};
-use hold_partial::{Ahead, Partial, move_to, next_bound};
+use hold_partial::{Partial, move_to};
 use std::alloc::Global;
 
 fn path_of(prefix: &[u8]) -> Path
@@ -67,39 +66,25 @@ fn longer(prefix: &[u8], number: u8) -> Path
     requires { length prefix.now < 60 }
     ensures { result.items ≡ prefix.now ++ number ∷ [] }
 {
-    let mut path = path_of(prefix);
+    let mut path = Path::new();
+    if path.try_extend_from_slice(prefix).is_err() {
+        unreachable!();
+    }
     path.push(number);
     path
 }
 
-/// The prefix with one more number, where that is viable.
-fn child(partial: &mut Partial<'_>, ahead: Option<&Ahead>, number: u8) -> Option<Waiting>
-    requires left { length partial.old.prefix < length partial.old.task.items }
-    requires few { length partial.old.task.items ≤ 60 }
-    requires known { number < length partial.old.task.hold.positions }
-    requires ahead { IfSome ahead (λ a. IsAhead partial.old.task partial.old.prefix a.now) }
-    ensures same { partial.new ≡ partial.old }
-    ensures prefix { IfSome result (λ w. w.prefix.items ≡ partial.old.prefix ++ number ∷ []) }
-    ensures viable { IfSome result (λ w. IsPrefix partial.old.task (key_of w)) }
-    ensures none { IfNone result
-        (IsViable partial.old.task (partial.old.prefix ++ number ∷ []) → ⊥) }
-{
-    let bound = next_bound(partial, ahead, number)?;
-    let prefix = longer(partial.prefix(), number);
-    Some(Waiting { bound, prefix })
-}
-
 /// Adds the viable prefixes that are this one with a number more.
-fn add_children(partial: &mut Partial<'_>, queue: &mut Queue) -> Result<(), NoMemory>
-    requires { length partial.old.prefix < length partial.old.task.items }
-    ensures same { partial.new ≡ partial.old }
-    ensures added { OnOk result (AddsChildren partial.old.task partial.old.prefix
-        (length partial.old.task.hold.positions) queue.old queue.new) }
+fn add_children(partial: &Partial<'_>, queue: &mut Queue) -> Result<(), NoMemory>
+    requires { length partial.now.prefix < length partial.now.task.items }
+    ensures { OnOk result (AddsChildren partial.now.task partial.now.prefix
+        (length partial.now.task.hold.positions) queue.old queue.new) }
 {
-    let ahead = partial.ahead();
+    let outlook = partial.outlook();
     for number in 0..partial.task().hold().position_count() {
-        if let Some(waiting) = child(partial, ahead.as_ref(), number) {
-            queue.add(waiting)?;
+        if let Some(bound) = outlook.bound_on(number) {
+            let prefix = longer(partial.prefix(), number);
+            queue.add(Waiting { bound, prefix })?;
         }
     }
     Ok(())
@@ -171,7 +156,7 @@ pub fn near_certificate(
             return Ok(Some(best(alloc, first.prefix, queue, expanded)?));
         }
         go_to(&mut partial, first.prefix.as_slice());
-        add_children(&mut partial, &mut queue)?;
+        add_children(&partial, &mut queue)?;
     }
     if queue.is_empty() {
         return Ok(Some(none_fits(alloc, budget)));

@@ -1,6 +1,6 @@
 //! The prefixes that a best-first search has still to look at, least first.
 
-ghost use Rattle.std.specs.Prelude.{◌≡◌, ◌↔◌, [], ◌∷◌, All, IfNone, IfOk, IfSome, IsPermutation, IsSorted, IsTrue, List, ℕ, length, map, nat_lt};
+ghost use Rattle.std.specs.Prelude.{◌≡◌, ◌↔◌, [], ◌∷◌, All, IfNone, IfOk, IfSome, IsPermutation, IsSorted, IsTrue, List, length, map, nat_lt};
 ghost use Rattle.std.specs.List.{filter};
 ghost use Rattle.std.specs.Ordering.{nat_cmp};
 ghost use Rattle.std.specs.Cmp.Lexicographic.{slice_cmp};

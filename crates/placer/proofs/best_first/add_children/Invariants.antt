@@ -1,9 +1,5 @@
-use Rattle.std.proofs.Common.{◌≡◌}
 use Rattle.placer.specs.Search.{AddsChildren}
 use Rattle.placer.proofs.best_first.add_children.Given as goal
 
 abbrev pub invariant-loop-number : goal.invariant-loop-number
-invariant-loop-number l = record {
-  same : l.partial ≡ l.fn.partial;
-  added : AddsChildren l.fn.partial.task l.fn.partial.prefix l.number l.fn.queue l.queue;
-}
+invariant-loop-number l = AddsChildren l.fn.partial.task l.fn.partial.prefix l.number l.fn.queue l.queue

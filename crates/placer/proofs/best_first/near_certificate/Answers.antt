@@ -1,4 +1,4 @@
-use Rattle.std.proofs.Common.{◌≡◌, ◌≢◌, ℕ, ◌+◌, ◌<◌, ◌≤◌, ◌≤ℤ◌, List, [], ◌∷◌, length, nat_lt, sym, ap, ap₂, ◌∙◌, subst, arith, refl, IsPermutation}
+use Rattle.std.proofs.Common.{◌≡◌, ℕ, ◌<◌, List, [], ◌∷◌, length, nat_lt, sym, ap, ap₂, ◌∙◌, subst, arith, refl, IsPermutation}
 use Rattle.std.proofs.lemmas.Bool.{false≢true}
 use Rattle.std.proofs.lemmas.List.Elements.{All-head}
 use Rattle.std.proofs.lemmas.List.Sorted.{All-permutation}
@@ -9,7 +9,7 @@ use Rattle.hold_partial.specs.Placing.{Placing, placing_of}
 use Rattle.hold_reach.proofs.ViableLemmas.{band-in_order}
 use Rattle.placer.specs.Keys.{key_of, prefixes}
 use Rattle.placer.specs.Near.{IsNear, AreMoreThan}
-use Rattle.placer.specs.Search.{IsPrefix, AddsChildren, HasTaken, IsSearched}
+use Rattle.placer.specs.Search.{IsPrefix, AddsChildren, IsSearched}
 use Rattle.placer.proofs.SearchLemmas.{IsSearched-empty, IsSearched-next}
 use Rattle.placer.proofs.AnswerLemmas.{IsEnd, AreLeft, more-near, none-at_most, none-certificate, end-at_most, end-certificate}
 use Rattle.placer.proofs.GoodLemmas.{IsGood-near}
@@ -131,9 +131,9 @@ loop-expanded-preserved c =
     let first = first-prefix t taken.0 c.loop-expanded.queue rest k taken.1 c.in-Some.ensures.taken in
     let here = stands t c.loop-expanded.partial.task k.1 c.go_to.new.partial c.as_slice.result.now c.loop-expanded.invariant.task c.as_slice.ensures.value c.go_to.ensures in
     let short : length k.1 < length t.items = omega (arith, first.viable.sound.short, c.len.ensures.value, c.if-len-complete.false, ap length c.items-complete.ensures.value) in
-    let adds : AddsChildren t k.1 (length t.hold.positions) rest new = subst (λ (p : Placing). AddsChildren p.task p.prefix (length p.task.hold.positions) rest new) here c.in_ok-add_children.ensures.added in
+    let adds : AddsChildren t k.1 (length t.hold.positions) rest new = subst (λ (p : Placing). AddsChildren p.task p.prefix (length p.task.hold.positions) rest new) here c.in_ok-add_children.ensures in
     record {
-      task = ap (λ (p : Placing). p.task) (c.in_ok-add_children.ensures.same ∙ here);
+      task = ap (λ (p : Placing). p.task) here;
       taken = (
         k.1 ∷ taken.0,
         IsSearched-next t taken.0 c.loop-expanded.queue rest new k (band-in_order t c.items-complete.ensures.lawful) c.in-Some.ensures.taken c.in-Some.ensures.least short adds taken.1,

@@ -1,7 +1,7 @@
-use Rattle.std.proofs.Common.{◌≡◌, [], ◌∷◌, List, ℕ, refl, sym, subst, ◌∙◌, IsPermutation}
+use Rattle.std.proofs.Common.{[], ◌∷◌, refl, sym, subst, ◌∙◌, IsPermutation}
 use Rattle.hold_reach.specs.Reach.{IsViable}
 use Rattle.placer.specs.Keys.{key_of}
-use Rattle.placer.specs.Search.{HasTaken, IsSearched}
+use Rattle.placer.specs.Search.{HasTaken}
 use Rattle.placer.proofs.SearchLemmas.{IsSearched-empty, IsSearched-first}
 use Rattle.placer.proofs.best_first.start.Goals as goal
 use Rattle.placer.proofs.best_first.start.Goals.{in-Some+in_ok-add, in_default}
