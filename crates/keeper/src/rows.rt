@@ -1,0 +1,82 @@
+//! Rows in memory, in the order of their keys.
+
+ghost use Rattle.std.specs.Prelude.{◌≡◌, [], IfOk, OnOk, OnErr};
+ghost use Rattle.keeper.specs.Rows.{with_row};
+ghost use Rattle.keeper.specs.Tables.{AreInKeyOrder};
+
+use crate::row::KeptRow;
+use desk_base::NoMemory;
+use std::alloc::Global;
+use std::cmp::Ordering;
+use std::marker::Model;
+
+/// Rows, one under each key, in the order of their keys.
+#[derive(Drop)]
+pub struct Rows {
+    list: Vec<KeptRow>,
+}
+
+impl Model for Rows {
+    ghost use Rattle.std.specs.Prelude.{List};
+    ghost use Rattle.keeper.specs.declared.row.KeptRow.{KeptRow};
+    ghost use Rattle.keeper.specs.Tables.{AreInKeyOrder};
+
+    ghost Value = { List KeptRow };
+
+    ghost view = { λ r. r.list.items };
+
+    ghost invariant = { λ r. AreInKeyOrder r.list.items };
+}
+
+impl Rows {
+    /// No rows.
+    pub fn new(alloc: Global) -> Rows
+        ensures { result ≡ [] }
+    {
+        Rows {
+            list: Vec::new(alloc),
+        }
+    }
+
+    /// The same rows, in memory of their own.
+    pub fn copied(&self, alloc: Global) -> Result<Vec<KeptRow>, NoMemory>
+        ensures copies { IfOk result (λ copies. copies.items ≡ self.now) }
+        ensures rising { AreInKeyOrder self.now }
+    {
+        let mut copies = Vec::new(alloc);
+        for row in &self.list {
+            copies.push(row.copy(alloc)?)?;
+        }
+        Ok(copies)
+    }
+
+    /// Adds the row, or replaces the one under its key.
+    pub fn put(&mut self, row: KeptRow) -> Result<(), NoMemory>
+        ensures put { OnOk result (self.new ≡ with_row row self.old) }
+        ensures same { OnErr result (self.new ≡ self.old) }
+    {
+        put_into(&mut self.list, row)
+    }
+}
+
+/// Adds the row at its place, or replaces the one under its key.
+fn put_into(rows: &mut Vec<KeptRow>, row: KeptRow) -> Result<(), NoMemory>
+    ensures put { OnOk result (rows.new.items ≡ with_row row rows.old.items) }
+    ensures same { OnErr result (rows.new.items ≡ rows.old.items) }
+{
+    for at in 0..rows.len() {
+        match row.key.as_slice().cmp(rows[at].key.as_slice()) {
+            Ordering::Less => {
+                rows.insert(at, row)?;
+                return Ok(());
+            }
+            Ordering::Equal => {
+                rows[at] = row;
+                return Ok(());
+            }
+            Ordering::Greater => {}
+        }
+    }
+    rows.push(row)?;
+    Ok(())
+}
