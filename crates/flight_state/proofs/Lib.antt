@@ -1,0 +1,3 @@
+pub mod ChangeLemmas
+pub mod KeyLemmas
+pub mod LimitLemmas
