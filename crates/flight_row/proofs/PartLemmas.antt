@@ -1,0 +1,59 @@
+-- how a refusal behind a part of a text is a refusal from the part on
+use Rattle.std.proofs.Common.{◌≡◌, ℕ, ◌+◌, ◌++◌, ◌∷◌, List, [], length, map, refl, sym, ◌∙◌, ap, subst, arith, All}
+use Rattle.std.proofs.lemmas.List.{append_assoc, append-nil, length-map}
+use Rattle.std.proofs.lemmas.List.Elements.{All-head, All-tail}
+use Rattle.text_lines.specs.Cuts.{Avoids}
+use Rattle.text_lines.specs.Grammar.{HasRun, Fails}
+use Rattle.text_lines.specs.declared.fault.LineFault.{LineFault}
+use Rattle.text_lines.proofs.RunOfLines.{Stops}
+use Rattle.text_lines.proofs.GrammarLemmas.{HasFirst, IsStep, fails_earlier}
+use Rattle.flight_row.specs.Reading.{ArePart}
+
+abbrev Lines : Type 0
+Lines = List (List ℕ)
+
+-- no entry comes next that would be allowed with these
+abbrev StopsWith : {X : Type 0} → (X → List ℕ) → (X → Type 0) → (List X → Type 0) → List X → Lines → Type 0
+StopsWith {X} line IsRight AreAllowed got lines = (x : X) (more : Lines) → IsRight x → AreAllowed (got ++ x ∷ []) → lines ≡ line x ∷ more → ⊥
+
+-- a part is read in one way only; the entries that both begin with stand before
+part_once : {X : Type 0} (line : X → List ℕ) (P : X → Type 0) (Fit : List X → Type 0) → ((xs ys : List X) → Fit (xs ++ ys) → Fit xs) → ((x y : X) → P x → P y → line x ≡ line y → x ≡ y)
+    → (done xs ys : List X) (lines other : Lines) → All P xs → All P ys → Fit (done ++ ys) → StopsWith line P Fit (done ++ xs) lines → Stops line P other → map line xs ++ lines ≡ map line ys ++ other → (xs ≡ ys) × (lines ≡ other)
+part_once line P Fit front once done [] [] lines other p q fit stop stop' e = (refl, e)
+part_once line P Fit front once done [] (y ∷ ys) lines other p q fit stop stop' e =
+    let whole : (done ++ y ∷ []) ++ ys ≡ done ++ y ∷ ys = append_assoc done (y ∷ []) ys in
+    let here : Fit (done ++ y ∷ []) = front (done ++ y ∷ []) ys (subst Fit (sym whole) fit) in
+    absurd (stop y (map line ys ++ other) (All-head P y ys q) (subst (λ zs. Fit (zs ++ y ∷ [])) (sym (append-nil done)) here) e)
+part_once line P Fit front once done (x ∷ xs) [] lines other p q fit stop stop' e = absurd (stop' x (map line xs ++ lines) (All-head P x xs p) (sym e))
+part_once {X} line P Fit front once done (x ∷ xs) (y ∷ ys) lines other p q fit stop stop' e =
+    let first : line x ≡ line y = cc in
+    let tails : map line xs ++ lines ≡ map line ys ++ other = cc in
+    let same : x ≡ y = once x y (All-head P x xs p) (All-head P y ys q) first in
+    let fit' : Fit ((done ++ x ∷ []) ++ ys) = subst Fit (sym (append_assoc done (x ∷ []) ys)) (subst (λ z. Fit (done ++ z ∷ ys)) (sym same) fit) in
+    let At : List X → Type 0 = λ zs. StopsWith line P Fit zs lines in
+    let again = part_once line P Fit front once (done ++ x ∷ []) xs ys lines other (All-tail P x xs p) (All-tail P y ys q) fit' (subst At (sym (append_assoc done (x ∷ []) xs)) stop) stop' tails in
+    (λ i. same i ∷ again.0 i, again.1)
+
+-- a kind of line that is read in one way only, whose entries are allowed as far as all are, and that no line of what follows is of
+pub record IsReadOnce {X : Type 0} (line : X → List ℕ) (IsRight : X → Type 0) (AreAllowed : List X → Type 0) (Follows : List X → Lines → Type 0) : Type 0 where
+  pub once : (x y : X) → IsRight x → IsRight y → line x ≡ line y → x ≡ y
+  pub avoids : (x : X) → IsRight x → Avoids 10 (line x)
+  pub front : (xs ys : List X) → AreAllowed (xs ++ ys) → AreAllowed xs
+  pub stops : (xs : List X) (more : Lines) → Follows xs more → Stops line IsRight more
+
+pub fails_before_part : {X : Type 0} (line : X → List ℕ) (P : X → Type 0) (Fit : List X → Type 0) (Follows : List X → Lines → Type 0) (before after : List ℕ) (number next : ℕ) (got : List X) (fault : LineFault)
+    → IsReadOnce line P Fit Follows → ArePart line P Fit before after number next got → Fails (Follows got) after next fault
+    → Fails (HasRun line P (λ (xs : List X) (lines : Lines). Fit xs × Follows xs lines)) before number fault
+fails_before_part {X} line P Fit Follows before after number next got fault kind part fails =
+    let Whole : List X → Lines → Type 0 = λ xs lines. Fit xs × Follows xs lines in
+    let step : IsStep (HasRun line P Whole) (Follows got) (map line got) after = record {
+      forth = λ more follows. record { said = got; right = part.right; more = more; follows = (part.allowed, follows); are = refl };
+      back = λ more first run.
+          let stop : StopsWith line P Fit got more = λ x rest right fits e. let found = first (line x) rest e in part.stops x found.0 right (kind.avoids x right) fits found.1 in
+          let same = part_once line P Fit kind.front kind.once [] got run.said more run.more part.right run.right run.follows.0 stop (kind.stops run.said run.more run.follows.1) run.are in
+          let Of : List X → Type 0 = λ xs. Follows xs more in
+          subst Of (sym same.0) (subst (Follows run.said) (sym same.1) run.follows.1);
+    } in
+    let long : length (map line got) ≡ length got = length-map got line in
+    let new = part.counted in
+    fails_earlier (HasRun line P Whole) (Follows got) (map line got) before after number next fault step part.read (omega (arith, long, new)) fails

@@ -1,0 +1,170 @@
+-- a part of a text, line by line
+use Rattle.std.proofs.Common.{◌≡◌, ℕ, ◌+◌, ◌<◌, ◌≤◌, Bool, true, false, ◌&&◌, ◌∷◌, ◌++◌, List, [], length, map, refl, sym, ◌∙◌, ap, subst, arith, All}
+use Rattle.std.proofs.lemmas.Bool.{true≢false, and_parts, and_from}
+use Rattle.std.proofs.lemmas.List.{length-append, append-nil}
+use Rattle.std.proofs.lemmas.List.Elements.{All-nil, All-push}
+use Rattle.text_lines.specs.Cuts.{Avoids}
+use Rattle.text_lines.specs.Lines.{text_of}
+use Rattle.text_lines.specs.Sections.{Says}
+use Rattle.text_lines.proofs.CutLemmas.{split_once_again, has_mark}
+use Rattle.text_lines.proofs.SectionLemmas.{text_of-push}
+use Rattle.trim.specs.declared.figures.Figures.{Figures}
+use Rattle.flight_state.specs.Effective.{can_add, can_add_all, with_change, with_changes}
+use Rattle.flight_state.specs.declared.change.Lmc.{Lmc}
+use Rattle.flight_state.specs.declared.state.Stage.TheVariants.{Working, Planned, Released, Departed}
+use Rattle.flight_state.specs.declared.state.Stage.{Stage}
+use Rattle.flight_row.specs.RowText.{change_line}
+use Rattle.flight_row.specs.Spelled.{IsSpelledChange, AreSpelledChanges}
+use Rattle.flight_row.specs.Reading.{ArePart}
+use Rattle.flight_row.proofs.ChangeLineLemmas.{change_once}
+use Rattle.flight_row.proofs.RestLemmas.{no_changes}
+
+-- these entries were read
+pub record AreRead {X : Type 0} (line : X → List ℕ) (IsRight : X → Type 0) (before after : List ℕ) (number next : ℕ) (got : List X) : Type 0 where
+  pub right : All IsRight got
+  pub read : before ≡ text_of (map line got) ++ after
+  pub counted : next ≡ number + length got
+
+pub none_read : {X : Type 0} (line : X → List ℕ) (P : X → Type 0) (text : List ℕ) (number : ℕ) → AreRead line P text text number number []
+none_read line P text number = record { right = All-nil P; read = refl; counted = omega arith }
+
+pub one_more : {X : Type 0} (line : X → List ℕ) (P : X → Type 0) (before rest after text : List ℕ) (number at next : ℕ) (got new : List X) (x : X) → AreRead line P before rest number at got → P x → text ≡ line x → rest ≡ text ++ 10 ∷ after → next ≡ at + 1 → new ≡ got ++ x ∷ [] → AreRead line P before after number next new
+one_more line P before rest after text number at next got new x so right is e counted grew =
+    let long = length-append got (x ∷ []) in
+    let old = so.counted in
+    let more : AreRead line P before after number next (got ++ x ∷ []) = record {
+      right = All-push P got x so.right right;
+      read = so.read ∙ ap (λ t. text_of (map line got) ++ t) (e ∙ ap (λ t. t ++ 10 ∷ after) is) ∙ sym (text_of-push line got x after);
+      counted = omega (arith, long, old, counted);
+    } in
+    subst (AreRead line P before after number next) (sym grew) more
+
+-- what a line of the kind says, of which the reader keeps all
+pub kept_whole : {X : Type 0} (line : X → List ℕ) (P : X → Type 0) (keep : X → X) (text : List ℕ) (got : X) → ((x : X) → keep x ≡ x) → Says line P keep text got → P got × (text ≡ line got)
+kept_whole line P keep text got whole says =
+    let same = says.kept ∙ whole says.said in
+    (subst P (sym same) says.right, says.is ∙ ap line (sym same))
+
+-- the next line is the only one that the text begins with
+pub same_line : (text line after other rest : List ℕ) → text ≡ line ++ 10 ∷ after → Avoids 10 line → Avoids 10 other → text ≡ other ++ 10 ∷ rest → line ≡ other
+same_line text line after other rest e clear clear' g = (split_once_again 10 line after other rest clear clear' (sym e ∙ g)).0
+
+-- where the reader stops: there is no line, it is of another kind, or there are as many entries as there may be
+
+pub no_line : {X : Type 0} (line : X → List ℕ) (P : X → Type 0) (Fit : List X → Type 0) (before after : List ℕ) (number next : ℕ) (got : List X) → AreRead line P before after number next got → Fit got → Avoids 10 after → ArePart line P Fit before after number next got
+no_line line P Fit before after number next got so fit clear = record {
+  right = so.right;
+  allowed = fit;
+  read = so.read;
+  counted = so.counted;
+  stops = λ x rest right avoids fits e. has_mark 10 (line x) rest (subst (Avoids 10) e clear);
+}
+
+pub other_line : {X : Type 0} (line : X → List ℕ) (P : X → Type 0) (Fit : List X → Type 0) (before after : List ℕ) (number next : ℕ) (got : List X) (text rest : List ℕ) → AreRead line P before after number next got → Fit got → after ≡ text ++ 10 ∷ rest → Avoids 10 text → ((x : X) → P x → Fit (got ++ x ∷ []) → text ≡ line x → ⊥) → ArePart line P Fit before after number next got
+other_line line P Fit before after number next got text rest so fit is clear none = record {
+  right = so.right;
+  allowed = fit;
+  read = so.read;
+  counted = so.counted;
+  stops = λ x other right avoids fits e. none x right fits (same_line after text rest (line x) other is clear avoids e);
+}
+
+pub all_read : {X : Type 0} (line : X → List ℕ) (P : X → Type 0) (Fit : List X → Type 0) (before after : List ℕ) (number next : ℕ) (got : List X) → AreRead line P before after number next got → Fit got → ((x : X) → Fit (got ++ x ∷ []) → ⊥) → ArePart line P Fit before after number next got
+all_read line P Fit before after number next got so fit full = record {
+  right = so.right;
+  allowed = fit;
+  read = so.read;
+  counted = so.counted;
+  stops = λ x rest right avoids fits e. full x fits;
+}
+
+pub too_long : {X : Type 0} (most : ℕ) (got : List X) → most ≤ length got → (x : X) → length (got ++ x ∷ []) ≤ most → ⊥
+too_long most got full x few = let long = length-append got (x ∷ []) in absurd (omega (arith, long, full, few))
+
+-- Late changes ---------------------------------------------------------------------------------------
+
+pub with_changes-push : (f : Figures) (xs : List Lmc) (x : Lmc) → with_changes f (xs ++ x ∷ []) ≡ with_change (with_changes f xs) x
+with_changes-push f [] x = refl
+with_changes-push f (y ∷ xs) x = with_changes-push (with_change f y) xs x
+
+last_added : (f : Figures) (xs : List Lmc) (x : Lmc) → can_add_all f (xs ++ x ∷ []) ≡ true → can_add (with_changes f xs) x ≡ true
+last_added f [] x e = (and_parts (can_add f x) true e).0
+last_added f (y ∷ xs) x e = last_added (with_change f y) xs x (and_parts (can_add f y) (can_add_all (with_change f y) (xs ++ x ∷ [])) e).1
+
+can_add_all-push : (f : Figures) (xs : List Lmc) (x : Lmc) → can_add_all f xs ≡ true → can_add (with_changes f xs) x ≡ true → can_add_all f (xs ++ x ∷ []) ≡ true
+can_add_all-push f [] x e g = and_from (can_add f x) true g refl
+can_add_all-push f (y ∷ xs) x e g =
+    let parts = and_parts (can_add f y) (can_add_all (with_change f y) xs) e in
+    and_from (can_add f y) (can_add_all (with_change f y) (xs ++ x ∷ [])) parts.0 (can_add_all-push (with_change f y) xs x parts.1 g)
+
+-- these changes can be made, and these are the figures with them
+pub record AreMade (f : Figures) (figures : Figures) (changes : List Lmc) : Type 0 where
+  pub figures_are : figures ≡ with_changes f changes
+  pub can_be_made : can_add_all f changes ≡ true
+  pub few : length changes ≤ 10
+
+pub none_made : (f figures : Figures) (changes : List Lmc) → figures ≡ f → changes ≡ [] → AreMade f figures changes
+none_made f figures changes e none =
+    let made : AreMade f figures [] = record { figures_are = e; can_be_made = refl; few = omega arith } in
+    subst (AreMade f figures) (sym none) made
+
+pub one_made : (f figures next : Figures) (changes new : List Lmc) (change : Lmc) → AreMade f figures changes → length changes < 10 → can_add figures change ≡ true → next ≡ with_change figures change → new ≡ changes ++ change ∷ [] → AreMade f next new
+one_made f figures next changes new change so room can is grew =
+    let long = length-append changes (change ∷ []) in
+    let now : AreMade f next (changes ++ change ∷ []) = record {
+      figures_are = is ∙ ap (λ (g : Figures). with_change g change) so.figures_are ∙ sym (with_changes-push f changes change);
+      can_be_made = can_add_all-push f changes change so.can_be_made (ap (λ (g : Figures). can_add g change) (sym so.figures_are) ∙ can);
+      few = omega (arith, long, room);
+    } in
+    subst (AreMade f next) (sym grew) now
+
+pub made_spelled : (f figures : Figures) (changes : List Lmc) → AreMade f figures changes → All IsSpelledChange changes → AreSpelledChanges f Released changes
+made_spelled f figures changes so each = record { few = so.few; each = each; can_be_made = so.can_be_made; for_stage = tt }
+
+-- a change that cannot be added does not come next
+pub cannot_add : (f figures : Figures) (changes : List Lmc) (change : Lmc) (text : List ℕ) → AreMade f figures changes → IsSpelledChange change → text ≡ change_line change → can_add figures change ≡ false
+    → (x : Lmc) → IsSpelledChange x → AreSpelledChanges f Released (changes ++ x ∷ []) → text ≡ change_line x → ⊥
+cannot_add f figures changes change text so right is cannot x right' s e =
+    let same = change_once x change right' right (sym e ∙ is) in
+    let can = ap (λ (g : Figures). can_add g x) so.figures_are ∙ last_added f changes x s.can_be_made in
+    true≢false (sym can ∙ ap (λ (y : Lmc). can_add figures y) same ∙ cannot)
+
+pub ten_made : (f : Figures) (changes : List Lmc) → 10 ≤ length changes → (x : Lmc) → AreSpelledChanges f Released (changes ++ x ∷ []) → ⊥
+ten_made f changes full x s = too_long 10 changes full x s.few
+
+-- the changes of a flight that has departed are those of one that is released
+pub part_departed : (f : Figures) (before after : List ℕ) (number next : ℕ) (changes : List Lmc) → ArePart change_line IsSpelledChange (AreSpelledChanges f Released) before after number next changes → ArePart change_line IsSpelledChange (AreSpelledChanges f Departed) before after number next changes
+part_departed f before after number next changes part =
+    let s = part.allowed in
+    record {
+      right = part.right;
+      allowed = record { few = s.few; each = s.each; can_be_made = s.can_be_made; for_stage = tt };
+      read = part.read;
+      counted = part.counted;
+      stops = λ x rest right avoids t e.
+          let released : AreSpelledChanges f Released (changes ++ x ∷ []) = record { few = t.few; each = t.each; can_be_made = t.can_be_made; for_stage = tt } in
+          part.stops x rest right avoids released e;
+    }
+
+-- a flight in work, or one that is planned, has no changes
+pub part_working : (f : Figures) (text : List ℕ) (number : ℕ) (changes : List Lmc) → changes ≡ [] → ArePart change_line IsSpelledChange (AreSpelledChanges f Working) text text number number changes
+part_working f text number changes none =
+    let part : ArePart change_line IsSpelledChange (AreSpelledChanges f Working) text text number number [] = record {
+      right = All-nil IsSpelledChange;
+      allowed = no_changes f Working;
+      read = refl;
+      counted = omega arith;
+      stops = λ x rest right avoids s e. absurd (cc (s.for_stage));
+    } in
+    subst (ArePart change_line IsSpelledChange (AreSpelledChanges f Working) text text number number) (sym none) part
+
+pub part_planned : (f : Figures) (text : List ℕ) (number : ℕ) (changes : List Lmc) → changes ≡ [] → ArePart change_line IsSpelledChange (AreSpelledChanges f Planned) text text number number changes
+part_planned f text number changes none =
+    let part : ArePart change_line IsSpelledChange (AreSpelledChanges f Planned) text text number number [] = record {
+      right = All-nil IsSpelledChange;
+      allowed = no_changes f Planned;
+      read = refl;
+      counted = omega arith;
+      stops = λ x rest right avoids s e. absurd (cc (s.for_stage));
+    } in
+    subst (ArePart change_line IsSpelledChange (AreSpelledChanges f Planned) text text number number) (sym none) part

@@ -1,0 +1,49 @@
+//! The writer of a row's text.
+
+ghost use Rattle.std.specs.Prelude.{◌≡◌, Some, List, All, IfOk};
+ghost use Rattle.hold_parts.specs.Spellings.{IsName};
+ghost use Rattle.hold_parts.specs.declared.parts.Position.{Position};
+ghost use Rattle.aircraft_file.specs.Craft.{Craft};
+ghost use Rattle.flight_row.specs.declared.row.Version.TheVariants.{Two};
+ghost use Rattle.flight_row.specs.RowText.{row_text};
+ghost use Rattle.flight_row.specs.Loading.{HasRow, KeepsPlan, Reads, aircraft_of, row_of};
+
+use crate::row_lines::{push_base, push_changes, push_head, push_plan};
+use aircraft_file::Aircraft;
+use desk_base::NoMemory;
+use flight_state::FlightState;
+use hold_limits::{Hold, Position};
+use std::alloc::Global;
+use telex::Builder;
+
+/// Writes the one row of a flight in the second version. Where its plan holds it is read back as the same flight.
+pub fn write_row(alloc: Global, a: &Aircraft, s: &FlightState) -> Result<Vec<u8>, NoMemory>
+    requires { HasRow a.now s.now }
+    ensures written { IfOk result (λ text. text.items ≡ row_text Two (row_of a.now s.now)) }
+    ensures read_back { (fleet : List Craft) → aircraft_of fleet s.now.leg ≡ Some a.now → KeepsPlan a.now s.now
+        → IfOk result (λ text. Reads fleet text.items s.now) }
+{
+    let hold = a.hold();
+    let _positions = named_positions(hold);
+    let mut text = Builder::new(alloc);
+    push_head(&mut text, s)?;
+    push_base(&mut text, &s.base)?;
+    push_plan(&mut text, hold, s)?;
+    push_changes(&mut text, s.lmcs.as_slice())?;
+    text.text(b"END")?;
+    text.end_line()?;
+    Ok(text.finish())
+}
+
+/// The positions of the hold. Each has a name, as its type says.
+fn named_positions(hold: &Hold) -> &[Position]
+    ensures value { result.now ≡ hold.now.positions }
+    ensures named { All (λ (q : Position). IsName q.name) result.now }
+{
+    let positions = hold.positions();
+    // What is known of a name is known once it is read.
+    for position in positions {
+        let _name = position.name.bytes();
+    }
+    positions
+}
