@@ -1,4 +1,5 @@
 pub mod Cuts
+pub mod ElementLaws
 pub mod LineLaws
 mod NumberLaws
 pub mod PartLaws

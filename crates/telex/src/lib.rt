@@ -4,7 +4,7 @@
 //! The elements of a line are separated by `.` and `/`. [`cut`] checks a text once; after that its
 //! [`Message`] is read by two iterators, [`Message::lines`] and [`Line::elements`], whose items are
 //! slices of the text. They copy and allocate nothing. Each item has its offset in the message, so that
-//! an error can name it. [`Builder`] writes such a text.
+//! an error can name it. [`Builder`] writes such a text, and every other text of the desk.
 #![tactic(auto)]
 
 mod reading;

@@ -1,5 +1,5 @@
 //! Reading a message: checking its text, its lines, and the parts of a line.
-ghost use Rattle.std.specs.Prelude.{◌≡◌, ℕ, ◌+◌, ◌<◌, ◌≤◌, ◌^◌, ◌↔◌, List, length, All, IsOk, IfOk, IfSome, IsTrue, MatchOption};
+ghost use Rattle.std.specs.Prelude.{◌≡◌, ℕ, ◌+◌, ◌<◌, ◌≤◌, ◌^◌, ◌↔◌, List, ◌∷◌, length, map, All, IsOk, IfOk, IfSome, IsSomeAnd, IsTrue, MatchOption};
 ghost use Rattle.std.specs.Iterator.{YieldsFirstBy, item_count};
 ghost use Rattle.std.specs.List.{position};
 ghost use Rattle.telex.specs.Lines.{PlacedLine, lines_of, AreLinesOf, IsPrintable};
@@ -7,6 +7,8 @@ ghost use Rattle.telex.specs.Parts.{PlacedPart, is_separator, parts_of, AreParts
 ghost use Rattle.telex.specs.declared.reading.TelexFault.{TelexFault};
 ghost use Rattle.telex.specs.Text.{longest_line, is_foreign, is_line_feed, bad_byte, long_line, IsEnded, IsTelex, IsRefusedWith};
 
+use desk_base::NoMemory;
+use std::alloc::Global;
 use std::marker::Model;
 use thiserror::Error;
 
@@ -183,7 +185,8 @@ pub struct Line<'a> {
 }
 
 impl<'a> Line<'a> {
-    ghost use Rattle.telex.specs.Items.{placed_line};
+    ghost use Rattle.telex.specs.Items.{placed_line, placed_part};
+    ghost use Rattle.telex.specs.Elements.{Element, AreElements, line_text, said};
 
     /// The parts in order, split at each dot and slash. A line with neither is a single part.
     pub fn elements(&self) -> Elements<'a>
@@ -199,6 +202,20 @@ impl<'a> Line<'a> {
             at: self.at,
         }
     }
+
+    /// The parts as a list. Each is a slice of the text still; the list alone takes memory.
+    pub fn parts(&self, alloc: Global) -> Result<Vec<Part<'a>>, NoMemory>
+        ensures parts { IfOk result (λ parts. map placed_part parts.items ≡ parts_of (placed_line self.now)) }
+        ensures joined { IfOk result (λ parts. line_text (said parts.items) ≡ self.now.text.now) }
+        ensures elements { IfOk result (λ parts. (elements : List Element) → AreElements elements
+            → self.now.text.now ≡ line_text elements → said parts.items ≡ elements) }
+    {
+        let mut parts = Vec::new(alloc);
+        for part in self.elements() {
+            parts.push(part)?;
+        }
+        Ok(parts)
+    }
 }
 
 /// The bytes between two separators of a line.
@@ -210,6 +227,27 @@ pub struct Part<'a> {
     pub text: &'a [u8],
     /// The part's offset in the message, in bytes.
     pub at: usize,
+    // The offset after the part is still a number of the type.
+    pub ghost countable: { at + length text.now < 2 ^ 64 },
+}
+
+impl<'a> Part<'a> {
+    /// The part without the byte that it begins with. None where it begins with another.
+    pub fn after_mark(&self, mark: u8) -> Option<Part<'a>>
+        ensures text { IfSome result (λ rest. self.now.text.now ≡ mark ∷ rest.text.now) }
+        ensures place { IfSome result (λ rest. (rest.before ≡ self.now.before) × (rest.at ≡ self.now.at + 1)) }
+        ensures read_back { (text : List ℕ) → self.now.text.now ≡ mark ∷ text
+            → IsSomeAnd result (λ rest. rest.text.now ≡ text) }
+    {
+        match self.text {
+            [first, text @ ..] if *first == mark => Some(Part {
+                before: self.before,
+                text,
+                at: self.at + 1,
+            }),
+            _ => None,
+        }
+    }
 }
 
 /// The parts of a line, in order.
