@@ -17,14 +17,14 @@ use Rattle.std.specs.declared.alloc.Global.{Global}
 use Rattle.placer.specs.Near.{AreMoreThan, IsNear, IsNearCertificate}
 use Rattle.placer.specs.declared.answer.Answer.{Answer}
 use Rattle.placer.specs.declared.answer.Answer.TheVariants.{Best, NoneFits, Budget}
-use Rattle.placer.specs.Answers.{IfBest, IfNoneFits, IfCertified, IfBudget}
+use Rattle.placer.specs.Answers.{IsAnswerTo}
 use Rattle.placer.specs.AnswerText.{evidence_text, budget_text, answer_text}
 use Rattle.loadctl.specs.Outcomes.{outcome_of, summary_outcome, IsSummaryText}
 use Rattle.generated_load.specs.Load.{generated_problem}
 use Rattle.loadctl.specs.declared.ending.Outcome.TheVariants.{Done, NothingFits, OverBudget}
 use Rattle.loadctl.specs.Arguments.{usual_budget}
 use Rattle.loadctl.specs.ReplyText.{plan_summary, none_summary, budget_summary}
-use Rattle.loadctl.specs.Reply.{IsEvidence, IsPlacing, IsSummary}
+use Rattle.loadctl.specs.Reply.{IsPlacing, IsSummary}
 use Rattle.loadctl.specs.Reply.IsPlacing.{plan, nothing_fits, over_budget}
 use Rattle.loadctl.specs.Reply.IsSummary.{plan_summed, none_summed, budget_summed}
 
@@ -74,15 +74,6 @@ budget-summary : (number : ℕ) (t : Problem) (spent : ℕ) (text : List ℕ) �
 budget-summary number t spent text made same more is =
     subst (IsSummary number OverBudget) (sym is)
     (budget_summed (subst (λ (p : Problem). AreMoreThan (IsNear p) usual_budget) made (subst (AreMoreThan (IsNear t)) same more)))
-
--- what the contract of a placement says of its answer
-pub record IsAnswerTo (t : Problem) (budget : ℕ) (answer : Answer) : Type 0 where
-  pub path : IfBest answer (λ proven. IsSomeAnd (claimed proven.certificate.claim) (IsBest t))
-  pub nothing : IfNoneFits answer (λ _. HasNoPlacement t)
-  pub near : IfCertified answer (λ certified. IsNearCertificate t certified.certificate)
-  pub enough : IfCertified answer (λ _. AreAtMost (IsNear t) budget)
-  pub spent : IfBudget answer (λ n. n ≡ budget)
-  pub over : IfBudget answer (λ n. AreMoreThan (IsNear t) n)
 
 pub is-placing : (t : Problem) (budget : ℕ) (answer : Answer) (text : List ℕ) → IsAnswerTo t budget answer → text ≡ answer_text t answer
     → IsPlacing t budget (outcome_of answer) text

@@ -1,3 +1,4 @@
+pub mod AnswerFormLemmas
 pub mod AnswerLemmas
 pub mod CountLemmas
 pub mod GoodLemmas

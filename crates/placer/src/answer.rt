@@ -3,10 +3,9 @@
 ghost use Rattle.std.specs.Prelude.{◌≡◌, IfOk, IsSomeAnd};
 ghost use Rattle.hold_limits.specs.Placement.{IsBest};
 ghost use Rattle.certificate.specs.Evidence.{claimed};
-ghost use Rattle.certificate.specs.Good.{AreAtMost};
 ghost use Rattle.cert_checker.specs.Claims.{HasNoPlacement, IsGoodFor};
-ghost use Rattle.placer.specs.Answers.{IfBest, IfBudget, IfCertified, IfNoneFits};
-ghost use Rattle.placer.specs.Near.{AreMoreThan, IsNear, IsNearCertificate};
+ghost use Rattle.placer.specs.Answers.{IfBest, IfBudget, IfCertified, IfNoneFits, IsAnswerTo};
+ghost use Rattle.placer.specs.Near.{IsNearCertificate};
 
 use crate::best_first::near_certificate;
 use cert_checker::{NoPlan, Proven};
@@ -32,18 +31,7 @@ pub trait Placing {
     /// prefixes are near than the budget, the answer is the budget. So the answer is a function of the task and the
     /// budget, unless memory runs out.
     fn place(&self, alloc: Global, task: &Task, budget: u32) -> Result<Answer, NoMemory>
-        ensures best { IfOk result (λ answer. IfBest answer (λ proven. proven.task ≡ task.now)) }
-        ensures path { IfOk result (λ answer. IfBest answer (λ proven.
-            IsSomeAnd (claimed proven.certificate.claim) (IsBest task.now))) }
-        ensures none { IfOk result (λ answer. IfNoneFits answer (λ no_plan. no_plan.task ≡ task.now)) }
-        ensures nothing { IfOk result (λ answer. IfNoneFits answer (λ _. HasNoPlacement task.now)) }
-        ensures near { IfOk result (λ answer. IfCertified answer (λ certified.
-            IsNearCertificate task.now certified.certificate)) }
-        ensures enough { IfOk result (λ answer. IfCertified answer (λ _.
-            AreAtMost (IsNear task.now) budget)) }
-        ensures budget { IfOk result (λ answer. IfBudget answer (λ n. n ≡ budget)) }
-        ensures over { IfOk result (λ answer. IfBudget answer (λ n.
-            AreMoreThan (IsNear task.now) n)) };
+        ensures { IfOk result (IsAnswerTo task.now budget) };
 }
 
 fn answer_of(task: Task, certificate: Certificate) -> Answer
@@ -68,18 +56,7 @@ fn answer_of(task: Task, certificate: Certificate) -> Answer
 /// The best path of the task with its near certificate, or that of a task without admissible paths. Where more
 /// prefixes are near than the budget, the answer is the budget.
 pub fn place(alloc: Global, task: &Task, budget: u32) -> Result<Answer, NoMemory>
-    ensures best { IfOk result (λ answer. IfBest answer (λ proven. proven.task ≡ task.now)) }
-    ensures path { IfOk result (λ answer. IfBest answer (λ proven.
-        IsSomeAnd (claimed proven.certificate.claim) (IsBest task.now))) }
-    ensures none { IfOk result (λ answer. IfNoneFits answer (λ no_plan. no_plan.task ≡ task.now)) }
-    ensures nothing { IfOk result (λ answer. IfNoneFits answer (λ _. HasNoPlacement task.now)) }
-    ensures near { IfOk result (λ answer. IfCertified answer (λ certified.
-        IsNearCertificate task.now certified.certificate)) }
-    ensures enough { IfOk result (λ answer. IfCertified answer (λ _.
-        AreAtMost (IsNear task.now) budget)) }
-    ensures budget { IfOk result (λ answer. IfBudget answer (λ n. n ≡ budget)) }
-    ensures over { IfOk result (λ answer. IfBudget answer (λ n.
-        AreMoreThan (IsNear task.now) n)) }
+    ensures { IfOk result (IsAnswerTo task.now budget) }
 {
     match near_certificate(alloc, task, budget)? {
         Some(certificate) => Ok(answer_of(task.copy(alloc)?, certificate)),
