@@ -18,6 +18,7 @@ use Rattle.aircraft_file.specs.declared.figures.Tolerance.{Tolerance}
 use Rattle.aircraft_file.specs.declared.parts.Envelopes.{Envelopes}
 use Rattle.aircraft_file.specs.declared.side_keys.NamedSide.{NamedSide}
 use Rattle.aircraft_file.specs.Spellings.{is_registration, is_version}
+use Rattle.aircraft_file.specs.Figures.{figures_with}
 use Rattle.aircraft_file.specs.Document.{Contents, required, optional, in_form, ◌>>=◌}
 use Rattle.aircraft_file.specs.Forms.{array_of, whole, signed, mass, text, index, zone, position_of, exclude, combined, cumulative, named_side, fuel_row, corner}
 use Rattle.aircraft_file.specs.Loading.{LimitLists, layout_with, apart, in_order, under}
@@ -82,16 +83,7 @@ figures_from vs = do
   tolerance ← tolerance_from vs
   ideal ← ideal_from vs
   averages ← averages_from vs
-  Ok (record {
-    registration = registration;
-    version = version;
-    dry = dry;
-    chord = chord;
-    certified = certified;
-    tolerance = tolerance;
-    ideal = ideal;
-    averages = averages;
-  })
+  Ok (figures_with registration version dry chord certified tolerance ideal averages)
 
 abbrev zones_from : List (Option Data) → Result (List Zone) FileFault
 zones_from vs = do

@@ -1,5 +1,5 @@
 -- the keys 1 to 21 of an aircraft file, section by section
-use Rattle.std.specs.Prelude.{if◌then◌else◌, pos, int_le, codes, Result, Ok, Err}
+use Rattle.std.specs.Prelude.{ℕ, if◌then◌else◌, pos, int_le, List, codes, Result, Ok, Err}
 use Rattle.mass_units.specs.declared.chord.Chord.{Chord}
 use Rattle.mass_limits.specs.declared.figures.Certified.{Certified}
 use Rattle.payload.specs.declared.figures.Averages.{Averages}
@@ -62,6 +62,19 @@ averages_of averages = do
   bag ← key 21 (mass 0 300) (codes "bag") averages
   Ok (record { adult = adult; child = child; infant = infant; bag = bag })
 
+-- the figures of an aircraft: its identity, and what its sections say
+abbrev pub figures_with : List ℕ → List ℕ → Dry → Chord → Certified → Tolerance → Band → Averages → Figures
+figures_with registration version dry chord certified tolerance ideal averages = record {
+  registration = registration;
+  version = version;
+  dry = dry;
+  chord = chord;
+  certified = certified;
+  tolerance = tolerance;
+  ideal = ideal;
+  averages = averages;
+}
+
 -- the keys 1 to 21: the aircraft's identity, and its sections of plain figures
 abbrev pub figures_of : Contents → Result Figures FileFault
 figures_of document = do
@@ -73,13 +86,4 @@ figures_of document = do
   tolerance ← tolerance_of (section_at (codes "tolerance") document)
   ideal ← ideal_of (section_at (codes "trim") document)
   averages ← averages_of (section_at (codes "averages") document)
-  Ok (record {
-    registration = registration;
-    version = version;
-    dry = dry;
-    chord = chord;
-    certified = certified;
-    tolerance = tolerance;
-    ideal = ideal;
-    averages = averages;
-  })
+  Ok (figures_with registration version dry chord certified tolerance ideal averages)
