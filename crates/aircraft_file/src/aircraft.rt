@@ -1,10 +1,9 @@
 //! An aircraft, and the tests that the numbers of a file make up a lawful one.
 
 ghost use Rattle.std.specs.Prelude.{◌≡◌, None, Some, IfErr, IfNone, IfOk, IfSome, MatchBool};
-ghost use Rattle.envelope.specs.Outline.{IsEnvelope};
 ghost use Rattle.hold_limits.specs.Faults.{IsWellSpelled, hold_fault};
 ghost use Rattle.aircraft_file.specs.Loading.{under};
-ghost use Rattle.aircraft_file.specs.Parts.{craft_in_parts, hold_in, outline_in, outlines_in};
+ghost use Rattle.aircraft_file.specs.Parts.{craft_in_parts, hold_in, outlines_in};
 ghost use Rattle.aircraft_file.specs.Lawful.{AreEnvelopes, FallsShort, HaveSpans, IsEnvelopeRefused, IsFirstShort, IsLawfulCraft, IsRefused, IsWithinLimits, Reaches};
 
 use crate::fault::FileFault;

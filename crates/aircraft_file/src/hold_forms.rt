@@ -1,7 +1,7 @@
 //! The forms of the limits on the positions of a hold. They name positions, and a name means the first
 //! position that has it.
 
-ghost use Rattle.std.specs.Prelude.{◌≡◌, IfOk, IfSome};
+ghost use Rattle.std.specs.Prelude.{◌≡◌, IfSome};
 ghost use Rattle.toml.specs.View.{view};
 ghost use Rattle.aircraft_file.specs.Forms.{combined, cumulative, exclude, named_position, named_side};
 ghost use Rattle.aircraft_file.specs.Lawful.{IsMass};

@@ -1,9 +1,7 @@
 //! The flight that a row stands for, by the rule on a plan that no longer holds.
 
-ghost use Rattle.std.specs.Prelude.{◌≡◌, ◌≤◌, ◌↔◌, ◌<◌, ℕ, List, None, Some, true, length, map, position, bytes_eq, All, Any, Contains, IsTrue, IfOk, IfSome, IfNone};
-ghost use Rattle.arrayvec.specs.ArrayVec.{ArrayVec};
+ghost use Rattle.std.specs.Prelude.{◌≡◌, ◌≤◌, ◌↔◌, ◌<◌, ℕ, List, None, Some, true, length, position, bytes_eq, Any, Contains, IsTrue, IfOk, IfSome, IfNone};
 ghost use Rattle.hold_parts.specs.declared.parts.Position.{Position};
-ghost use Rattle.hold_limits.specs.Layout.{name_at};
 ghost use Rattle.trim.specs.declared.rules.Rule.{Rule};
 ghost use Rattle.trim.specs.Laws.{plan_rules};
 ghost use Rattle.trim.specs.Limits as figures;

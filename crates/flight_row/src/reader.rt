@@ -1,6 +1,6 @@
 //! The reader of a row's text.
 
-ghost use Rattle.std.specs.Prelude.{◌≡◌, ℕ, List, Some, find, bytes_eq, IfOk, IfErr, MatchResult};
+ghost use Rattle.std.specs.Prelude.{◌≡◌, Some, find, bytes_eq, IfOk, IfErr, MatchResult};
 ghost use Rattle.std.specs.Option.{option_copied};
 ghost use Rattle.text_lines.specs.Grammar.{Fails};
 ghost use Rattle.text_lines.specs.Lines.{text_of};

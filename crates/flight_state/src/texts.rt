@@ -1,6 +1,6 @@
 //! The small texts of a flight.
 
-ghost use Rattle.std.specs.Prelude.{◌≡◌, ◌++◌, codes, true};
+ghost use Rattle.std.specs.Prelude.{◌≡◌, codes, true};
 ghost use Rattle.aircraft_file.specs.Spellings.{spelled};
 ghost use Rattle.flight_state.specs.Spellings.{is_day, is_flight_key, is_flight_name, is_station};
 

@@ -1,6 +1,6 @@
 //! Readers of the lines that name positions: limits of the hold, and loose loads.
 
-ghost use Rattle.std.specs.Prelude.{◌≡◌, ◌≢◌, ℕ, Bool, ◌∷◌, ◌++◌, [], List, map, All, codes, IfSome, IfNone, IfOk, IsSomeAnd};
+ghost use Rattle.std.specs.Prelude.{◌≡◌, ◌≢◌, ℕ, Bool, ◌++◌, [], List, map, All, codes, IfSome, IfNone, IfOk, IsSomeAnd};
 ghost use Rattle.mass_units.specs.Spelling.{number_text, IsNumber};
 ghost use Rattle.hold_parts.specs.declared.parts.Combined.{Combined};
 ghost use Rattle.hold_parts.specs.declared.parts.Cumulative.{Cumulative};
@@ -8,7 +8,6 @@ ghost use Rattle.hold_parts.specs.declared.parts.Loose.{Loose};
 ghost use Rattle.text_lines.specs.Cuts.{IsCutAt};
 ghost use Rattle.problem_text.specs.TaskText.{end_word, side_word, exclude_line, combined_line, cumulative_line, side_line, loose_line, IsSpelledExclude, IsSpelledCombined, IsSpelledCumulative, IsSpelledSide, IsSpelledLoose};
 ghost use Rattle.text_lines.specs.Names.{IsNamed};
-ghost use Rattle.hold_limits.specs.Layout.{name_at};
 ghost use Rattle.problem_text.specs.PositionNumbers.{keep_pair, keep_combined, keep_cumulative, keep_side, keep_loose};
 ghost use Rattle.text_lines.specs.Names.{byte_of};
 ghost use Rattle.text_lines.specs.WordRuns.{run_text, name_text};

@@ -1,6 +1,6 @@
 //! Readers of the lines of containers and of indices.
 
-ghost use Rattle.std.specs.Prelude.{◌≡◌, ◌≢◌, ℕ, ℤ, ◌∷◌, ◌++◌, IfSome, IfNone};
+ghost use Rattle.std.specs.Prelude.{◌≡◌, ◌≢◌, ◌∷◌, ◌++◌, IfSome, IfNone};
 ghost use Rattle.mass_units.specs.Spelling.{index_text, IsIndex, IsNumber};
 ghost use Rattle.problem_text.specs.TaskText.{lateral_line, item_line, IsSpelledItem};
 ghost use Rattle.problem_text.specs.Reading.{IsVersionLine, IsLateralLine, IsIndexLine, IsBandLine};

@@ -1,7 +1,7 @@
 //! The reader of a position line.
 
-ghost use Rattle.std.specs.Prelude.{◌≡◌, ◌≢◌, ℕ, ℤ, ◌≤◌, Bool, List, ◌∷◌, ◌++◌, length, All, IfSome, IfNone, IfOk, IsSomeAnd};
-ghost use Rattle.mass_units.specs.Spelling.{number_text, signed_text, IsNumber, IsSignedNumber};
+ghost use Rattle.std.specs.Prelude.{◌≡◌, ◌≢◌, ℕ, ◌≤◌, Bool, List, ◌∷◌, ◌++◌, All, IfSome, IfNone, IfOk, IsSomeAnd};
+ghost use Rattle.mass_units.specs.Spelling.{number_text, signed_text, IsSignedNumber};
 ghost use Rattle.hold_parts.specs.declared.lists.Fit.{Fit};
 ghost use Rattle.hold_parts.specs.declared.parts.Position.{Position};
 ghost use Rattle.hold_parts.specs.Spellings.{IsKind, IsName};

@@ -1,6 +1,6 @@
 //! The lines of a text, one after another.
 
-ghost use Rattle.std.specs.Prelude.{◌≡◌, ℕ, ◌+◌, ◌<◌, ◌^◌, List, ◌∷◌, ◌++◌, length, IfSome, IfNone, IfOk, IfErr, OnOk};
+ghost use Rattle.std.specs.Prelude.{◌≡◌, ◌+◌, ◌<◌, ◌^◌, ◌∷◌, ◌++◌, length, IfSome, IfNone, IfOk, IfErr, OnOk};
 ghost use Rattle.text_lines.specs.Lines.{IsStopped};
 ghost use Rattle.text_lines.specs.Cuts.{Avoids};
 
