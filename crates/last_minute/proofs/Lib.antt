@@ -1,0 +1,9 @@
+pub mod NetLemmas
+pub mod StowedLemmas
+pub mod CountLemmas
+pub mod PlaceLemmas
+pub mod FitLemmas
+pub mod NamedLoads
+pub mod LateLemmas
+pub mod SheetLemmas
+pub mod PlannedLemmas
