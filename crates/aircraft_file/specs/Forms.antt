@@ -1,5 +1,5 @@
 -- the forms of a value, and what a value in each form says
-use Rattle.std.specs.Prelude.{ℕ, nat_le, min, ◌&&◌, Bool, true, false, if◌then◌else◌, List, [], ◌∷◌, ℤ, pos, int_le, unsigned_abs, codes, position, Option, Some, None, option_map, option_and_then}
+use Rattle.std.specs.Prelude.{ℕ, nat_le, min, ◌&&◌, Bool, true, false, if◌then◌else◌, List, [], ◌∷◌, ℤ, pos, int_le, unsigned_abs, codes, Option, Some, None, option_map, option_and_then}
 use Rattle.toml.specs.Data.{Data, Items, no_items, item, Members, as_integer, as_str, as_bool, as_array, as_table, get_member}
 use Rattle.mass_units.specs.declared.Kg.{Kg}
 use Rattle.mass_units.specs.declared.Ticks.{Ticks}

@@ -8,7 +8,7 @@ ghost use Rattle.aircraft_file.specs.Lawful.{AreEnvelopes, FallsShort, HaveSpans
 
 use crate::fault::FileFault;
 use crate::figures::Figures;
-use crate::parts::{AllSides, Envelopes, HoldParts, Limits, Parts, Sides};
+use crate::parts::{AllSides, Envelopes, HoldParts, Limits, Parts};
 use crate::texts::{Registration, Version};
 use envelope::{EnvFault, Envelope};
 use fuel_table::FuelTable;

@@ -11,9 +11,7 @@ ghost use Rattle.cert_checker.specs.declared.reject.Reject.TheVariants.{NotAPlac
 use crate::reject::Reject;
 use crate::standard::{Evidence, Standard};
 use certificate::{Certificate, Claim};
-use hold_limits::{
-    Path, Task, hold_index_of, is_in_window, is_sound, lateral_difference_of, outcome,
-};
+use hold_limits::{Task, hold_index_of, is_in_window, is_sound, lateral_difference_of, outcome};
 use std::cmp::Ordering;
 
 /// Whether the certificate claims a path.

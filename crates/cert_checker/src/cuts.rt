@@ -1,7 +1,6 @@
 //! Whether the cuts of a certificate hold.
 
-ghost use Rattle.std.specs.Prelude.{◌≡◌, ◌↔◌, ◌<◌, ◌≤◌, ◌+◌, IfOk, IfErr, IfSome, IfNone, IsTrue, Some, List, ℕ, AllPairs, false, length, take, slice_get};
-ghost use Rattle.hold_limits.specs.Placement.{IsSound};
+ghost use Rattle.std.specs.Prelude.{◌≡◌, ◌↔◌, ◌<◌, ◌≤◌, ◌+◌, IfOk, IfErr, IfSome, IfNone, IsTrue, Some, List, ℕ, AllPairs, length, take, slice_get};
 ghost use Rattle.hold_reach.specs.Reach.{bound};
 ghost use Rattle.certificate.specs.Good.{AreInOrder};
 ghost use Rattle.cert_checker.specs.FirstReason.{CutsHold, IsInOrder, CanBeCut, CutFails};

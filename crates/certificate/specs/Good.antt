@@ -9,7 +9,7 @@ use Rattle.std.specs.Cmp.Lexicographic.{slice_cmp}
 use Rattle.std.specs.declared.cmp.Ordering.TheVariants.{Less}
 use Rattle.desk_base.specs.Lists.{Extends}
 use Rattle.hold_limits.specs.Problem.{Problem}
-use Rattle.hold_limits.specs.Placement.{Key, key, IsAtMost, IsAdmissible}
+use Rattle.hold_limits.specs.Placement.{key, IsAtMost, IsAdmissible}
 use Rattle.hold_limits.specs.Twins.{IsRising}
 use Rattle.hold_reach.specs.Reach.{IsViable, bound}
 

@@ -1,6 +1,6 @@
 //! Readers of the lines of a certificate after its first.
 
-ghost use Rattle.std.specs.Prelude.{◌≡◌, ◌≢◌, ℕ, ◌+◌, ◌≤◌, List, ◌∷◌, ◌++◌, length, OnOk, IfOk, IfErr, IfSome, IfNone};
+ghost use Rattle.std.specs.Prelude.{◌≡◌, ◌≢◌, ℕ, ◌+◌, ◌≤◌, List, ◌∷◌, ◌++◌, OnOk, IfOk, IfErr, IfSome, IfNone};
 ghost use Rattle.text_lines.specs.Cuts.{Avoids, IsCutAt};
 ghost use Rattle.text_lines.specs.Lines.{IsStopped};
 ghost use Rattle.text_lines.specs.Sections.{HasNoneAhead};

@@ -1,7 +1,6 @@
 //! The reader of a certificate's text.
 
 ghost use Rattle.std.specs.Prelude.{◌≡◌, ◌≢◌, ℕ, ◌+◌, ◌≤◌, List, length, All, AllPairs, IfOk, IfErr, IfSome, IfNone, MatchResult};
-ghost use Rattle.hold_limits.specs.Faults.{IsLawful};
 ghost use Rattle.hold_parts.specs.Spellings.{IsName};
 ghost use Rattle.hold_parts.specs.declared.parts.Position.{Position};
 ghost use Rattle.text_lines.specs.Grammar.{Fails};

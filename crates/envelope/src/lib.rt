@@ -2,7 +2,7 @@
 //! and an aft side. Each side is a list of corners, with straight edges between neighbouring ones.
 #![tactic(auto)]
 
-ghost use Rattle.std.specs.Prelude.{◌≡◌, ℕ, ◌<◌, ◌≤◌, ◌↔◌, ℤ, ◌≤ℤ◌, IsTrue, IfSome, IfNone, IfOk, IfErr};
+ghost use Rattle.std.specs.Prelude.{◌≡◌, ◌<◌, ◌≤◌, ◌↔◌, ℤ, ◌≤ℤ◌, IsTrue, IfSome, IfNone, IfOk, IfErr};
 ghost use Rattle.envelope.specs.Outline.{HasCorners, SameSpan};
 
 mod corner;

@@ -12,7 +12,7 @@ ghost use Rattle.flight_state.specs.Effective.{can_add_all, KeepsLimits};
 ghost use Rattle.flight_row.specs.Spelled.{AreSpelledFigures, IsSpelledPlan};
 ghost use Rattle.flight_row.specs.Loading.{AreNamed, IsLoaded, StillHolds, in_work_again, rules_due, without_plan};
 
-use crate::row::{PlanNames, Row};
+use crate::row::Row;
 use aircraft_file::Aircraft;
 use desk_base::NoMemory;
 use flight_state::{FlightState, Lmcs, Stage, effective};

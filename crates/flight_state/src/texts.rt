@@ -1,10 +1,10 @@
 //! The small texts of a flight.
 
-ghost use Rattle.std.specs.Prelude.{◌≡◌, codes, true};
+ghost use Rattle.std.specs.Prelude.{◌≡◌, true};
 ghost use Rattle.aircraft_file.specs.Spellings.{spelled};
-ghost use Rattle.flight_state.specs.Spellings.{is_day, is_flight_key, is_flight_name, is_station};
+ghost use Rattle.flight_state.specs.Spellings.{is_day, is_flight_name, is_station};
 
-use crate::spelling::{is_day, is_flight_key, is_flight_name, is_station};
+use crate::spelling::{is_day, is_flight_name, is_station};
 use arrayvec::ArrayVec;
 use std::marker::Model;
 
@@ -148,54 +148,6 @@ impl Station {
     pub fn bytes(&self) -> &[u8]
         ensures value { result.now ≡ self.now }
         ensures spelled { is_station self.now ≡ true }
-    {
-        self.letters.as_slice()
-    }
-}
-
-/// The key of a flight: its name, a hyphen, and its day, as `XX210-12`. No two flights of the office have one key.
-#[derive(Debug, Drop)]
-pub struct FlightKey {
-    letters: ArrayVec<u8, 10>,
-}
-
-impl Model for FlightKey {
-    ghost use Rattle.std.specs.Prelude.{◌≡◌, ℕ, List, true};
-    ghost use Rattle.flight_state.specs.Spellings.{is_flight_key};
-
-    ghost Value = { List ℕ };
-
-    ghost view = { λ k. k.letters.items };
-
-    ghost invariant = { λ k. is_flight_key k.letters.items ≡ true };
-}
-
-impl FlightKey {
-    /// The key that the text spells. None exactly where it spells none.
-    pub fn read(text: &[u8]) -> Option<FlightKey>
-        ensures { result ≡ spelled is_flight_key text.now }
-    {
-        if !is_flight_key(text) {
-            return None;
-        }
-        let letters = ArrayVec::try_from(text).ok()?;
-        Some(FlightKey { letters })
-    }
-
-    /// The same key.
-    pub fn copy(&self) -> FlightKey
-        ensures { result ≡ self.now }
-    {
-        match ArrayVec::try_from(self.letters.as_slice()) {
-            Ok(letters) => FlightKey { letters },
-            Err(_) => unreachable!(),
-        }
-    }
-
-    /// The letters of the key.
-    pub fn bytes(&self) -> &[u8]
-        ensures value { result.now ≡ self.now }
-        ensures spelled { is_flight_key self.now ≡ true }
     {
         self.letters.as_slice()
     }

@@ -4,7 +4,7 @@ ghost use Rattle.std.specs.Prelude.{◌≡◌, option_map, position};
 ghost use Rattle.std.specs.List.{list_any};
 ghost use Rattle.hold_limits.specs.Layout.{layout_of};
 ghost use Rattle.hold_limits.specs.declared.fault.HoldFault.TheVariants as hold;
-ghost use Rattle.hold_limits.specs.Faults.{position_fault, limit_fault, hold_fault, has_wrong_number, has_wrong_influence, has_wrong_fits, has_wrong_mass, has_wrong_fit_mass, has_too_many, is_unknown, is_bulk, has_wrong_positions, same_pair, is_wrong_exclude, is_wrong_exclude_at, wrong_exclude, places_rise, is_wrong_combined, is_wrong_cumulative, position_before, is_wrong_side_at, wrong_side};
+ghost use Rattle.hold_limits.specs.Faults.{position_fault, limit_fault, hold_fault, has_wrong_number, has_wrong_influence, has_wrong_fits, has_wrong_mass, has_wrong_fit_mass, has_too_many, is_unknown, is_bulk, has_wrong_positions, same_pair, is_wrong_exclude_at, wrong_exclude, places_rise, is_wrong_combined, is_wrong_cumulative, position_before, is_wrong_side_at, wrong_side};
 
 use crate::fault::HoldFault;
 use hold_parts::{Combined, Cumulative, Fit, Position, first_repeat};

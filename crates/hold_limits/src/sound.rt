@@ -1,6 +1,6 @@
 //! Whether a prefix is sound, tested rule by rule.
 
-ghost use Rattle.std.specs.Prelude.{◌≡◌, ◌≢◌, ◌+◌, ◌<◌, ◌≤◌, ◌↔◌, ℕ, length, take, All, AllPairs, IsTrue, MatchOption, if◌then◌else◌};
+ghost use Rattle.std.specs.Prelude.{◌≡◌, ◌≢◌, ◌+◌, ◌<◌, ◌≤◌, ◌↔◌, length, All, AllPairs, IsTrue, MatchOption, if◌then◌else◌};
 ghost use Rattle.hold_limits.specs.Placement.{IsAccepted, Exclude, placed, placed_load, loose_load, load_of, IsSound};
 ghost use Rattle.hold_parts.specs.Limits.{is_listed, is_counted, is_limited, most_of};
 

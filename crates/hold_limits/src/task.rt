@@ -1,4 +1,4 @@
-ghost use Rattle.std.specs.Prelude.{◌≡◌, ◌↔◌, ◌<◌, IfOk, IfErr, Some, None, length, slice_get, IsTrue};
+ghost use Rattle.std.specs.Prelude.{◌≡◌, ◌↔◌, ◌<◌, IfOk, IfErr, Some, length, slice_get, IsTrue};
 ghost use Rattle.hold_limits.specs.BranchOrder.{order_of, ordered};
 ghost use Rattle.hold_limits.specs.Problem.{indices_of, problem_of};
 ghost use Rattle.hold_limits.specs.Faults.{IsLawful, task_fault};

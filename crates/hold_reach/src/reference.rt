@@ -1,9 +1,9 @@
 //! The first rule that a placement breaks, by loops over containers and positions as the definitions say it. This
 //! is the reference that faster code is tested against.
 
-ghost use Rattle.std.specs.Prelude.{◌≡◌, ◌+◌, ◌*◌, ◌<◌, ◌≤◌, nat_lt, if◌then◌else◌, ◌++◌, ◌∷◌, [], Some, None, IfSome, IfNone, MatchOption, length, slice_get, position, option_map, unsigned_abs, true, false};
+ghost use Rattle.std.specs.Prelude.{◌≡◌, ◌+◌, ◌*◌, ◌<◌, ◌≤◌, nat_lt, if◌then◌else◌, ◌++◌, ◌∷◌, [], Some, None, length, slice_get, position, false};
 ghost use Rattle.hold_parts.specs.declared.parts.Item.{Item};
-ghost use Rattle.hold_limits.specs.Placement.{placed, placed_load, loose_load, load_of, placed_moment, hold_index};
+ghost use Rattle.hold_limits.specs.Placement.{placed, placed_load, loose_load, load_of};
 ghost use Rattle.hold_limits.specs.BranchOrder.{ordered};
 ghost use Rattle.hold_limits.specs.Faults.{IsLawful};
 ghost use Rattle.hold_parts.specs.Limits.{is_limited, most_of};

@@ -1,5 +1,5 @@
 // A wire hears the requests of a link, one after another.
-ghost use Rattle.std.specs.Prelude.{◌≡◌, ◌≤◌, ℕ, List, [], length, IfOk, IfSome, IsFalse, false};
+ghost use Rattle.std.specs.Prelude.{◌≡◌, ◌≤◌, [], length, IfOk, IfSome, IsFalse, false};
 ghost use Rattle.std.specs.Borrow.{sem};
 ghost use Rattle.http_wire.specs.Hearing.{to_come, request_of, HearsNext, Counts};
 ghost use Rattle.http_wire.specs.Lending.{WireRests};

@@ -1,6 +1,6 @@
 //! The arguments of the program.
 
-ghost use Rattle.std.specs.Prelude.{◌≡◌, ◌≤◌, ◌<◌, ◌^◌, ◌↔◌, ◌∷◌, [], All, IsTrue, IfSome, IfNone, ℕ, codes, string_bytes};
+ghost use Rattle.std.specs.Prelude.{◌≡◌, ◌≤◌, ◌<◌, ◌^◌, ◌↔◌, ◌∷◌, [], All, IsTrue, IfSome, IfNone, ℕ, string_bytes};
 ghost use Rattle.mass_units.specs.Spelling.{number_text};
 ghost use Rattle.loadctl.specs.Arguments.{arguments_of, greatest_budget, BeginsWithMinus, Job, AskFor, IsCommand, AreInvalid};
 ghost use Rattle.loadctl.specs.Commands.{job_of};

@@ -1,6 +1,6 @@
 //! The centre of gravity in percent of the mean aerodynamic chord.
 
-ghost use Rattle.std.specs.Prelude.{ℕ, ◌+◌, ◌*◌, ◌<◌, ◌≤◌, pos, ◌*ℤ◌, ◌^◌, ◌≡◌, ◌-ℤ◌, unsigned_abs};
+ghost use Rattle.std.specs.Prelude.{◌+◌, ◌*◌, ◌<◌, ◌≤◌, pos, ◌*ℤ◌, ◌^◌, ◌≡◌, ◌-ℤ◌, unsigned_abs};
 ghost use Rattle.mass_units.specs.Rounding.{IsRounded};
 ghost use Rattle.mass_units.specs.PercentMac.{moment_behind_lemac};
 

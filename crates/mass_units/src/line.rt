@@ -1,6 +1,6 @@
 //! Straight lines over masses, along which the edges of envelopes and fuel indices run.
 
-ghost use Rattle.std.specs.Prelude.{ℕ, ◌<◌, ◌≤◌, ◌↔◌, ℤ, pos, ◌≡◌, ◌-◌, ◌-ℤ◌, ◌*ℤ◌, ◌≤ℤ◌, ◌+ℤ◌, FitsSigned, IsTrue};
+ghost use Rattle.std.specs.Prelude.{◌<◌, ◌≤◌, ◌↔◌, ℤ, pos, ◌≡◌, ◌-◌, ◌-ℤ◌, ◌*ℤ◌, ◌≤ℤ◌, ◌+ℤ◌, FitsSigned, IsTrue};
 ghost use Rattle.std.specs.Int.{w64};
 
 use crate::wide::{difference, product, share_down};

@@ -1,6 +1,6 @@
 //! Lines of a task, appended to a text.
 
-ghost use Rattle.std.specs.Prelude.{◌≡◌, [], ◌∷◌, ◌++◌, OnOk, codes};
+ghost use Rattle.std.specs.Prelude.{◌≡◌, [], ◌∷◌, ◌++◌, OnOk};
 ghost use Rattle.mass_units.specs.Spelling.{number_text, signed_text, index_text};
 ghost use Rattle.hold_parts.specs.Spellings.{IsName, IsUldId};
 ghost use Rattle.problem_text.specs.TaskText.{position_word, end_word, side_word, position_line, exclude_line, combined_line, cumulative_line, side_line, lateral_line, item_line, loose_line};

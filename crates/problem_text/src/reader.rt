@@ -1,4 +1,4 @@
-ghost use Rattle.std.specs.Prelude.{◌≡◌, All, codes, IfOk, IfErr, MatchResult, Some, None};
+ghost use Rattle.std.specs.Prelude.{◌≡◌, All, IfOk, IfErr, MatchResult, Some, None};
 ghost use Rattle.hold_limits.specs.Layout.{layout_under};
 ghost use Rattle.hold_limits.specs.Problem.{Problem};
 ghost use Rattle.hold_limits.specs.Faults.{IsLawful, IsWellSpelled, hold_fault, task_fault};

@@ -1,5 +1,5 @@
 // A hold of two compartments, fore and aft, and what placements of a few containers in it are worth.
-ghost use Rattle.std.specs.Prelude.{◌≤◌, ◌≡◌, All, IfOk, length};
+ghost use Rattle.std.specs.Prelude.{◌≤◌, ◌≡◌, All, IfOk};
 ghost use Rattle.hold_parts.specs.declared.lists.Fit.{Fit};
 ghost use Rattle.hold_parts.specs.Spellings.{IsKind};
 

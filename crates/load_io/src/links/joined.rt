@@ -1,5 +1,5 @@
 // An input and an output that make a link together.
-ghost use Rattle.std.specs.Prelude.{◌≡◌, ℕ, List, Option};
+ghost use Rattle.std.specs.Prelude.{◌≡◌};
 
 use crate::{Failed, Link, Sink, Source};
 

@@ -1,5 +1,5 @@
 // A link that never fails.
-ghost use Rattle.std.specs.Prelude.{◌≡◌, min, length, None, Some, Ok};
+ghost use Rattle.std.specs.Prelude.{◌≡◌, None, Some};
 
 use crate::{Failed, Link, Sink, Source, SureSink, SureSource};
 use std::marker::Model;
