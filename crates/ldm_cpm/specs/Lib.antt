@@ -1,0 +1,3 @@
+pub mod Messages
+pub mod Sheets
+pub mod Reading
