@@ -1,0 +1,5 @@
+pub mod ItemLemmas
+pub mod JsonLemmas
+pub mod ObjectLemmas
+pub mod RecordLemmas
+pub mod SameRecords
