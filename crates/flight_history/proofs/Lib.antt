@@ -1,0 +1,9 @@
+pub mod LastOneLemmas
+pub mod StandingLemmas
+pub mod HistoryLemmas
+pub mod AloneLemmas
+pub mod VerdictLemmas
+pub mod KeptLemmas
+pub mod OneHistory
+pub mod ReleaseLemmas
+pub mod PlainLemmas

@@ -1,0 +1,7 @@
+use Rattle.std.proofs.Common.{◌≡◌, take}
+use Rattle.flight_history.specs.Plain.{acts_in}
+use Rattle.flight_history.specs.Standing.{figures_after}
+use Rattle.flight_history.proofs.plain.figures_after.Given as goal
+
+abbrev pub invariant-loop-entry : goal.invariant-loop-entry
+invariant-loop-entry l = l.figures ≡ figures_after l.opened (acts_in (take l.entry-index l.entries))

@@ -1,0 +1,13 @@
+pub mod LastOnes
+pub mod Fleet
+pub mod Standing
+pub mod Step
+pub mod Verdict
+pub mod History
+pub mod Replies
+pub mod KeptRows
+pub mod Alone
+pub mod Plans
+pub mod Released
+pub mod Plain
+pub mod Asking
