@@ -37,6 +37,3 @@ pub use fault::FileFault;
 pub use laws::{file_laws, index_laws};
 pub use reader::read_aircraft;
 pub use texts::{Registration, Version};
-
-#[cfg(test)]
-mod tests;

@@ -22,8 +22,6 @@ mod line_writers;
 mod name_table;
 mod parts;
 mod reader;
-#[cfg(test)]
-mod tests;
 mod writer;
 
 pub use fault::CertFault;

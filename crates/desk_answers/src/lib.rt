@@ -10,6 +10,3 @@ mod replies;
 pub use answer::{Answer, Document};
 pub use errors::PlainError;
 pub use replies::answer_to;
-
-#[cfg(test)]
-mod tests;

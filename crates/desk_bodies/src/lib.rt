@@ -15,6 +15,3 @@ pub use containers::read_containers;
 pub use fault::BodyFault;
 pub use figures::{read_dry, read_fuel, read_limits};
 pub use lists::{read_cabin, read_loose};
-
-#[cfg(test)]
-mod tests;

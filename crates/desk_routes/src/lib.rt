@@ -8,6 +8,3 @@ mod router;
 pub use parts::{edition_in, key_in, read_edition};
 pub use route::Route;
 pub use router::DeskRouter;
-
-#[cfg(test)]
-mod tests;

@@ -136,6 +136,3 @@ fn same_span(forward: &[Corner], aft: &[Corner]) -> bool
     forward.first().map(|corner| corner.mass.0) == aft.first().map(|corner| corner.mass.0)
         && forward.last().map(|corner| corner.mass.0) == aft.last().map(|corner| corner.mass.0)
 }
-
-#[cfg(test)]
-mod tests;

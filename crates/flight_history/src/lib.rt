@@ -19,6 +19,3 @@ pub use opening::new_flight;
 pub use plain::standing_after;
 pub use reply::{Refusal, Reply};
 pub use request::{FigurePart, Request, What, replaced};
-
-#[cfg(test)]
-mod tests;

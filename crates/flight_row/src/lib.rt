@@ -38,6 +38,3 @@ mod writer;
 pub use fault::RowFault;
 pub use reader::read_row;
 pub use writer::write_row;
-
-#[cfg(test)]
-mod tests;

@@ -10,8 +10,6 @@ mod key;
 mod leg;
 mod spelling;
 mod state;
-#[cfg(test)]
-mod tests;
 mod texts;
 
 pub use change::{Lmc, Lmcs};

@@ -84,6 +84,3 @@ impl FuelTable {
         row::index_of(&self.rows, fuel)
     }
 }
-
-#[cfg(test)]
-mod tests;

@@ -22,6 +22,3 @@ pub use repeats::{Alike, first_repeat};
 pub use sameness::{Same, are_same};
 pub use spellings::is_kind;
 pub use texts::{Name, UldId};
-
-#[cfg(test)]
-mod tests;

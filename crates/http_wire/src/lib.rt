@@ -22,6 +22,3 @@ pub use answers::answer;
 pub use laws::request_laws;
 pub use refusals::{Refusal, WireFault};
 pub use wire::{Heard, Wire};
-
-#[cfg(test)]
-mod tests;

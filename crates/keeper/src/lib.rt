@@ -14,6 +14,3 @@ pub use failing::FailingKeeper;
 pub use keeper::{KeepFault, Keeper};
 pub use memory::MemoryKeeper;
 pub use row::{Bytes, KeptRow};
-
-#[cfg(test)]
-mod tests;

@@ -17,6 +17,3 @@ pub use flight_state::{
 pub use issuing::sheet_of;
 pub use late::apply_lmc;
 pub use sheet::{Place, PlaceList, Sheet};
-
-#[cfg(test)]
-mod tests;

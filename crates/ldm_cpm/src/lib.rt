@@ -42,8 +42,6 @@ mod loads;
 mod messages;
 mod numbers;
 mod places;
-#[cfg(test)]
-mod tests;
 mod titles;
 
 pub use cpm_reader::read_cpm;

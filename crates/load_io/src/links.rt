@@ -73,6 +73,3 @@ pub fn send_all<L: Link>(link: &mut L, text: &[u8]) -> Result<(), Failed>
     }
     Ok(())
 }
-
-#[cfg(test)]
-mod tests;

@@ -31,6 +31,3 @@ pub trait Source {
         ensures uncounted { OnOk result (faults self.new ≡ faults self.old) }
         ensures counted { OnErr result (Rose (faults self.old) (faults self.new)) };
 }
-
-#[cfg(test)]
-mod tests;

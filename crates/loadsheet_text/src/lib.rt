@@ -28,7 +28,5 @@
 
 mod line_writers;
 mod sheet;
-#[cfg(test)]
-mod tests;
 
 pub use sheet::write_sheet;

@@ -10,8 +10,6 @@
 #![tactic(auto)]
 
 mod figures;
-#[cfg(test)]
-mod tests;
 mod weighing;
 
 pub use figures::{Certified, Limiting, MassInput, MassRule, Masses, Underload};

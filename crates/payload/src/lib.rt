@@ -11,8 +11,6 @@
 mod cabin;
 mod figures;
 mod loading;
-#[cfg(test)]
-mod tests;
 
 pub use cabin::Cabin;
 pub use figures::{Averages, Load, PayFault, Zone, ZoneCount};

@@ -184,6 +184,3 @@ fn hold_of(
         None => Ok(hold),
     }
 }
-
-#[cfg(test)]
-mod tests;

@@ -7,8 +7,6 @@ mod fault;
 mod lines;
 mod names;
 mod sections;
-#[cfg(test)]
-mod tests;
 
 pub use cuts::{after_prefix, cut, split_once};
 pub use fault::LineFault;

@@ -30,6 +30,3 @@ pub use laws::flight_laws;
 pub use lists::{Items, LooseList};
 pub use rules::{Rule, Rules, broken_rules};
 pub use task::task_of;
-
-#[cfg(test)]
-mod tests;

@@ -1,0 +1,121 @@
+// The standing of a flight from acts that were all accepted.
+ghost use Rattle.std.specs.Prelude.{◌≡◌, [], IfOk};
+
+use aircraft_file::Registration;
+use desk_base::NoMemory;
+use flight_history::{Act, Entry, FigurePart, Outcome, standing_after};
+use flight_state::{Day, FlightKey, FlightName, FlightState, Leg, Lmc, Lmcs, Stage, Station};
+use hold_limits::Path;
+use mass_units::{Kg, Ticks};
+use payload::Cabin;
+use std::alloc::Global;
+use std::test::Fail;
+use trim::{Dry, Figures, Fuel, Items, LooseList, Regulated};
+
+fn figures(alloc: Global) -> Figures {
+    Figures {
+        dry: Dry {
+            mass: Kg(42_000),
+            index: Ticks(5_000_000),
+            cockpit: 2,
+            attendants: 4,
+        },
+        fuel: Fuel {
+            taxi: Kg(0),
+            take_off: Kg(0),
+            trip: Kg(0),
+        },
+        regulated: Regulated {
+            take_off: Kg(73_500),
+            landing: Kg(66_000),
+        },
+        cabin: Cabin::from(Vec::new(alloc)),
+        containers: Items::from(Vec::new(alloc)),
+        loose: LooseList::from(Vec::new(alloc)),
+    }
+}
+
+fn leg() -> Result<Leg, NoMemory> {
+    Ok(Leg {
+        flight: FlightName::read(b"XX210").ok_or(NoMemory)?,
+        day: Day::read(b"12").ok_or(NoMemory)?,
+        registration: Registration::read(b"DAIAB").ok_or(NoMemory)?,
+        origin: Station::read(b"FRA").ok_or(NoMemory)?,
+        destination: Station::read(b"ARN").ok_or(NoMemory)?,
+    })
+}
+
+fn push(entries: &mut Vec<Entry>, act: Act) -> Result<(), NoMemory> {
+    let entry = Entry {
+        desk: 1,
+        key: FlightKey::read(b"XX210-12").ok_or(NoMemory)?,
+        act,
+        outcome: Outcome::Done,
+    };
+    entries.push(entry)?;
+    Ok(())
+}
+
+/// A flight at edition 4 that was released twice.
+fn begun(alloc: Global) -> Result<FlightState, NoMemory>
+    ensures { IfOk result (λ s. s.lmcs ≡ []) }
+{
+    Ok(FlightState {
+        leg: leg()?,
+        edition: 4,
+        stage: Stage::Working,
+        base: figures(alloc),
+        plan: None,
+        lmcs: Lmcs::new(alloc),
+        releases: 2,
+    })
+}
+
+#[test]
+fn a_flight_is_as_its_acts_leave_it(rt: HostRuntime) -> Result<(), Fail> {
+    let alloc = rt.alloc();
+    let opened = begun(alloc)?;
+    let mut entries = Vec::new(alloc);
+    let fuel = Fuel {
+        taxi: Kg(200),
+        take_off: Kg(9_000),
+        trip: Kg(6_000),
+    };
+    push(
+        &mut entries,
+        Act::Set {
+            edition: 4,
+            part: FigurePart::Fuel(fuel),
+        },
+    )?;
+    push(
+        &mut entries,
+        Act::Install {
+            edition: 5,
+            path: Path::new(),
+            same: true,
+        },
+    )?;
+    push(&mut entries, Act::Release { edition: 5 })?;
+    push(
+        &mut entries,
+        Act::Late {
+            edition: 5,
+            lmc: Lmc::Cabin {
+                zone: 2,
+                adults: 3,
+                children: 0,
+                infants: 0,
+            },
+        },
+    )?;
+    push(&mut entries, Act::Release { edition: 6 })?;
+    let standing = standing_after(alloc, &opened, &entries)?.ok_or(NoMemory)?;
+    assert_eq!(rt; standing.edition, 6);
+    assert!(rt; standing.stage == Stage::Released && standing.plan.is_some());
+    assert_eq!(rt; standing.releases, 3);
+    assert_eq!(rt; standing.base.fuel.take_off.0, 9_000);
+    assert!(rt; standing.base.cabin.counts().is_empty());
+    assert_eq!(rt; standing.lmcs.as_slice().len(), 1);
+    Ok(())
+}

@@ -1,0 +1,16 @@
+//! Tests of the figures' crates: envelopes, fuel tables, limits of mass, payloads, the parts of a hold, keepers.
+//! They stand apart, since a crate with tests is proved twice.
+#![tactic(auto)]
+
+#[cfg(test)]
+mod envelopes;
+#[cfg(test)]
+mod fuel_tables;
+#[cfg(test)]
+mod keepers;
+#[cfg(test)]
+mod limits;
+#[cfg(test)]
+mod parts;
+#[cfg(test)]
+mod payloads;
