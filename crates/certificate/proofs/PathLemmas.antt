@@ -58,7 +58,7 @@ pub path_line-is : (word : List ℕ) (ps : List Position) (path : List ℕ) → 
 path_line-is word ps [] = sym (append-nil word)
 path_line-is word ps (q ∷ path) = ap (λ t. word ++ 32 ∷ t) (path_line-is (name_at ps q) ps path)
 
-names_avoid : (ps : List Position) (path : List ℕ) → AreClear 10 ps → All (IsNamed ps) path → Avoids 10 (run_text (name_text ps) path)
+pub names_avoid : (ps : List Position) (path : List ℕ) → AreClear 10 ps → All (IsNamed ps) path → Avoids 10 (run_text (name_text ps) path)
 names_avoid ps [] clear named = All-nil (λ b. eqb b 10 ≡ false)
 names_avoid ps (q ∷ path) clear named =
     let here = All-head (IsNamed ps) q path named in

@@ -26,7 +26,9 @@ mod writer;
 
 pub use fault::CertFault;
 pub use laws::reading_laws;
-pub use line_writers::push_path;
+pub use line_readers::next_claim;
+pub use line_writers::{push_claim, push_path};
+pub use name_table::NameTable;
 pub use parts::{Certificate, Claim, Cuts};
 pub use reader::read_certificate;
 pub use writer::{push_certificate, write_certificate};

@@ -67,7 +67,7 @@ impl<'a> NameTable<'a> {
     }
 
     /// The number of the position with this name. None exactly where there is no such position.
-    fn number_of(&self, name: &[u8]) -> Option<u8>
+    pub fn number_of(&self, name: &[u8]) -> Option<u8>
         ensures found { IfSome result (λ q. IsNamed self.now.positions.now q × (name.now ≡ name_at self.now.positions.now q)) }
         ensures none { IfNone result ((q : ℕ) → IsNamed self.now.positions.now q
             → name.now ≢ name_at self.now.positions.now q) }

@@ -29,12 +29,12 @@ use Rattle.hold_reach.proofs.ViableLemmas.{hold_index-next, lateral_difference-n
 use Rattle.desk_base.proofs.PairLemmas.{each-weaker}
 use Rattle.hold_partial.specs.declared.ahead.Ahead.{Ahead}
 use Rattle.hold_partial.specs.declared.ahead.Extremes.{Extremes}
-use Rattle.hold_partial.specs.declared.position_set.PositionSet.{PositionSet}
+use Rattle.position_set.specs.declared.set.PositionSet.{PositionSet}
 use Rattle.hold_partial.specs.declared.tables.Tables.{Tables}
 use Rattle.hold_partial.specs.Arrangement.{Ranked, ranked_of, at_rank}
 use Rattle.hold_partial.specs.Ahead.{AreExtremes, Spares, IsSpanOfTwin, moved, IsAhead}
 use Rattle.hold_partial.specs.Kept.{AreTables, factor_of}
-use Rattle.hold_partial.specs.Sets.{has}
+use Rattle.position_set.specs.Sets.{has}
 use Rattle.hold_partial.specs.Tables.{first_twin}
 use Rattle.hold_partial.proofs.ClosedLemmas.{at_rank-ext, falls-next_other, falls-next_twin, falls-twins, class-of_twins}
 use Rattle.hold_partial.proofs.KeptLemmas.{stand-known}

@@ -21,13 +21,13 @@ use Rattle.hold_limits.proofs.TwinLemmas.{are_twins-Decides, AreTwins-sym, AreTw
 use Rattle.hold_reach.specs.Reach.{falls}
 use Rattle.hold_reach.proofs.RuleLemmas.{placed-push, zip-nil, false_where_not}
 use Rattle.hold_partial.specs.declared.closed.Closed.{Closed}
-use Rattle.hold_partial.specs.declared.position_set.PositionSet.{PositionSet}
+use Rattle.position_set.specs.declared.set.PositionSet.{PositionSet}
 use Rattle.hold_partial.specs.Arrangement.{Ranked, at_rank}
 use Rattle.hold_partial.specs.Kept.{AreClosed}
-use Rattle.hold_partial.specs.Sets.{has, Stands}
+use Rattle.position_set.specs.Sets.{has, Stands}
 use Rattle.hold_partial.specs.Tables.{first_twin}
 use Rattle.hold_partial.proofs.LevelSteps.{at_rank-or}
-use Rattle.hold_partial.proofs.SetLemmas.{lt-or-le}
+use Rattle.position_set.proofs.SetLemmas.{lt-or-le}
 
 -- Classes of twins ------------------------------------------------------------------------------
 

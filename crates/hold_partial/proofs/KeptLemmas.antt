@@ -36,7 +36,7 @@ use Rattle.hold_reach.specs.Extents.{may_stand, amount_of, IsSpanOfList}
 use Rattle.hold_partial.specs.declared.board.Board.{Board}
 use Rattle.hold_partial.specs.declared.level.Level.{Level}
 use Rattle.hold_partial.specs.declared.position_table.PositionEntry.{PositionEntry}
-use Rattle.hold_partial.specs.declared.position_set.PositionSet.{PositionSet}
+use Rattle.position_set.specs.declared.set.PositionSet.{PositionSet}
 use Rattle.hold_partial.specs.declared.tables.Tables.{Tables}
 use Rattle.hold_partial.specs.Arrangement.{Ranked, ranked_of, at_rank}
 use Rattle.hold_partial.specs.Kept.{AreTables, IsKept, factor_of}
@@ -44,7 +44,7 @@ use Rattle.hold_partial.specs.Levels.{IsLevel, IsSpanOnRanks}
 use Rattle.hold_partial.specs.Limits.{Allowance, limits_of, limits_on, added_at, AreLoads}
 use Rattle.hold_reach.specs.Reach.{falls, amounts}
 use Rattle.hold_reach.specs.Rules.{is_used, has_kind_at, excluding, rule_broken}
-use Rattle.hold_partial.specs.Sets.{has}
+use Rattle.position_set.specs.Sets.{has}
 use Rattle.hold_partial.specs.Tables.{IsDemand, IsPositionEntry, side_in}
 use Rattle.hold_partial.proofs.ClosedLemmas.{class-within}
 use Rattle.hold_partial.proofs.LevelSteps.{hold_index-bound, lateral-bound}

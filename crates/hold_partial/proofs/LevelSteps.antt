@@ -26,7 +26,7 @@ use Rattle.hold_partial.specs.Arrangement.{Ranked, at_rank}
 use Rattle.hold_partial.specs.Levels.{is_blocked, IsLevel}
 use Rattle.hold_reach.specs.Reach.{is_free, falls, is_open}
 use Rattle.hold_reach.specs.Rules.{is_used}
-use Rattle.hold_partial.specs.Sets.{has}
+use Rattle.position_set.specs.Sets.{has}
 use Rattle.hold_partial.specs.Tables.{IsDemand, IsPositionEntry}
 use Rattle.hold_reach.proofs.RuleLemmas.{zip-nil, false_where_not}
 use Rattle.hold_reach.proofs.ViableLemmas.{hold_index-next, lateral_difference-next, IsRising-front, IsRising-next}

@@ -1,4 +1,3 @@
-pub mod SetLemmas
 pub mod ArrangementLemmas
 pub mod TableLemmas
 pub mod NumberLemmas

@@ -1,8 +1,8 @@
 -- a set of the numbers below another that pass a test, one number more at a time
 use Rattle.std.proofs.Common.{◌≡◌, ⊎_elim, ℕ, ◌+◌, Bool, true, false, ◌&&◌, ◌||◌, ◌==◌, nat_lt, refl, ap, ap₂, sym, ◌∙◌, arith}
 use Rattle.std.proofs.lemmas.Bool.Decides.{nat_tests, eqb_tells}
-use Rattle.hold_partial.specs.declared.position_set.PositionSet.{PositionSet}
-use Rattle.hold_partial.specs.Sets.{has, Stands}
+use Rattle.position_set.specs.declared.set.PositionSet.{PositionSet}
+use Rattle.position_set.specs.Sets.{has, Stands}
 
 lt-more : (q n : ℕ) → nat_lt q (n + 1) ≡ (nat_lt q n || (q == n))
 lt-more q n = grind (arith, nat_tests)

@@ -10,8 +10,8 @@ use Rattle.hold_reach.specs.Extents.{IsBounded, IsSpanOfList}
 use Rattle.hold_reach.specs.Reach.{amounts, is_open, reach}
 use Rattle.hold_partial.specs.declared.ahead.Ahead.{Ahead}
 use Rattle.hold_partial.specs.declared.ahead.Extremes.{Extremes}
-use Rattle.hold_partial.specs.declared.position_set.PositionSet.{PositionSet}
-use Rattle.hold_partial.specs.Sets.{has}
+use Rattle.position_set.specs.declared.set.PositionSet.{PositionSet}
+use Rattle.position_set.specs.Sets.{has}
 
 -- two open positions of a container, of which the first has its least moment and the last its greatest
 pub record AreExtremes (t : Problem) (prefix : List ℕ) (item : Item) (e : Extremes) : Type 0 where

@@ -13,12 +13,12 @@ use Rattle.hold_reach.specs.Reach.{falls}
 use Rattle.hold_partial.specs.declared.board.Board.{Board}
 use Rattle.hold_partial.specs.declared.closed.Closed.{Closed}
 use Rattle.hold_partial.specs.declared.level.Level.{Level}
-use Rattle.hold_partial.specs.declared.position_set.PositionSet.{PositionSet}
+use Rattle.position_set.specs.declared.set.PositionSet.{PositionSet}
 use Rattle.hold_partial.specs.declared.tables.Tables.{Tables}
 use Rattle.hold_partial.specs.Arrangement.{Ranked, IsByInfluence, at_rank}
 use Rattle.hold_partial.specs.Levels.{IsLevel}
 use Rattle.hold_partial.specs.Limits.{limits_on, AreLoads, AreAllowed}
-use Rattle.hold_partial.specs.Sets.{Stands}
+use Rattle.position_set.specs.Sets.{Stands}
 use Rattle.hold_partial.specs.Tables.{AreDemands, IsPositionTable, IsSides, side_in, first_twin}
 
 -- the limits that speak of each position

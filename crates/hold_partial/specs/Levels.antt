@@ -10,7 +10,7 @@ use Rattle.hold_reach.specs.declared.span.Span.{Span}
 use Rattle.hold_reach.specs.Rules.{is_used}
 use Rattle.hold_partial.specs.declared.level.Level.{Level}
 use Rattle.hold_partial.specs.Arrangement.{Ranked, at_rank}
-use Rattle.hold_partial.specs.Sets.{Stands}
+use Rattle.position_set.specs.Sets.{Stands}
 
 -- a container on the position, or on one that excludes it
 abbrev pub is_blocked : Layout → List ℕ → ℕ → Bool

@@ -1,6 +1,5 @@
 pub mod Placing
 pub mod Limits
-pub mod Sets
 pub mod Arrangement
 pub mod Tables
 pub mod Levels

@@ -5,11 +5,11 @@ use Rattle.hold_limits.specs.BranchOrder.{ordered}
 use Rattle.hold_reach.specs.Reach.{is_open}
 use Rattle.hold_partial.specs.declared.ahead.Ahead.{Ahead}
 use Rattle.hold_partial.specs.declared.board.Board.{Board}
-use Rattle.hold_partial.specs.declared.position_set.PositionSet.{PositionSet}
+use Rattle.position_set.specs.declared.set.PositionSet.{PositionSet}
 use Rattle.hold_partial.specs.Ahead.{IsAhead}
 use Rattle.hold_partial.specs.Arrangement.{at_rank}
 use Rattle.hold_partial.specs.Kept.{IsKept}
-use Rattle.hold_partial.specs.Sets.{Stands}
+use Rattle.position_set.specs.Sets.{Stands}
 
 -- the board leaves a container, these ranks are those of the positions that are open for it, and this is ahead of it
 pub record IsOutlook (board : Board) (ranks : PositionSet) (ahead : Option Ahead) : Type 0 where

@@ -14,7 +14,7 @@ use Rattle.hold_partial.specs.declared.position_table.PositionEntry.{PositionEnt
 use Rattle.hold_partial.specs.declared.sides.Sides.{Sides}
 use Rattle.hold_partial.specs.Arrangement.{Ranked, ranked_of, at_rank}
 use Rattle.hold_reach.specs.Rules.{has_kind_at}
-use Rattle.hold_partial.specs.Sets.{has, Stands}
+use Rattle.position_set.specs.Sets.{has, Stands}
 
 -- the rank of the first twin of a container, which may be itself, in branch order
 abbrev pub first_twin : Problem → Item → ℕ

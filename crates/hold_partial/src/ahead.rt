@@ -2,10 +2,10 @@
 
 ghost use Rattle.std.specs.Prelude.{◌≡◌, ◌<◌, ◌≤◌, ◌+◌, ◌+ℤ◌, ◌*ℤ◌, ◌||◌, ◌==◌, ℕ, false, pos};
 ghost use Rattle.hold_reach.specs.Extents.{IsBounded};
-ghost use Rattle.hold_partial.specs.Sets.{has};
+ghost use Rattle.position_set.specs.Sets.{has};
 
-use crate::position_set::PositionSet;
 use hold_reach::Span;
+use position_set::PositionSet;
 
 /// Two open positions of a container, by number: none has a smaller moment than the first, and none a greater one than
 /// the last. The span is from the one moment to the other, in ticks.

@@ -14,17 +14,17 @@ ghost use Rattle.hold_partial.specs.Ahead.{AreExtremes, IsAhead, Spares};
 ghost use Rattle.hold_partial.specs.Kept.{IsKept};
 ghost use Rattle.hold_partial.specs.Arrangement.{Ranked, at_rank};
 ghost use Rattle.hold_partial.specs.Levels.{IsLevel};
-ghost use Rattle.hold_partial.specs.Sets.{has, Stands};
+ghost use Rattle.position_set.specs.Sets.{has, Stands};
 
 use crate::ahead::{Ahead, Extremes};
 use crate::closed::Closed;
 use crate::level::Level;
 use crate::limit_table::{LimitMasses, loose_masses, rule_of};
 use crate::loads::{add_load, first_over, take_load};
-use crate::position_set::PositionSet;
 use crate::tables::Tables;
 use hold_limits::{Path, Task, hold_index_of, lateral_difference_of};
 use hold_reach::{Extent, RuleBroken, Span, meets_lateral_limit};
+use position_set::PositionSet;
 
 /// A sound prefix of a task, with what is looked up of the task and what is kept of the prefix.
 #[derive(Drop)]

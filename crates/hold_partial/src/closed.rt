@@ -1,10 +1,10 @@
 //! Which positions placed containers close to their twins.
 
 ghost use Rattle.std.specs.Prelude.{◌≡◌, ◌≢◌, ◌<◌, ◌||◌, ℕ, false, slice_index_or, slice_set};
-ghost use Rattle.hold_partial.specs.declared.position_set.PositionSet.{PositionSet};
-ghost use Rattle.hold_partial.specs.Sets.{has};
+ghost use Rattle.position_set.specs.declared.set.PositionSet.{PositionSet};
+ghost use Rattle.position_set.specs.Sets.{has};
 
-use crate::position_set::PositionSet;
+use position_set::PositionSet;
 
 /// The positions that placed containers close to their twins, by their ranks in the order of influence: those with no
 /// greater number. A class of twins is known by the rank, in branch order, of its first container.

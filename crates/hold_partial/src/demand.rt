@@ -5,15 +5,15 @@ ghost use Rattle.hold_limits.specs.Enumeration.{is_accepted};
 ghost use Rattle.hold_limits.specs.Faults.{IsLawfulHold};
 ghost use Rattle.hold_partial.specs.Arrangement.{IsByInfluence};
 ghost use Rattle.hold_reach.specs.Rules.{has_kind_at};
-ghost use Rattle.hold_partial.specs.Sets.{Stands};
+ghost use Rattle.position_set.specs.Sets.{Stands};
 ghost use Rattle.hold_partial.specs.Tables.{first_twin, IsDemand, AreDemands};
 
 use crate::arrangement::{Ranked, ranks_of};
-use crate::position_set::PositionSet;
 use arrayvec::ArrayVec;
 use hold_limits::{Hold, Item, Task};
 use hold_reach::reference::accepts_kind_at;
 use mass_units::Kg;
+use position_set::PositionSet;
 
 /// A container, and the positions that it could stand on in an empty hold.
 #[derive(Clone, Copy, Debug)]

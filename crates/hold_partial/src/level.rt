@@ -1,12 +1,12 @@
 //! What is kept of a prefix, so that one position more or fewer costs little.
 
 ghost use Rattle.std.specs.Prelude.{◌≡◌, ◌<◌, ◌≤◌, ◌&&◌, ◌||◌, ◌==◌, ℕ, not, pos, ◌+ℤ◌, ◌*ℤ◌, unsigned_abs};
-ghost use Rattle.hold_partial.specs.Sets.{has};
+ghost use Rattle.position_set.specs.Sets.{has};
 
 use crate::demand::Demand;
-use crate::position_set::PositionSet;
 use crate::position_table::PositionEntry;
 use mass_units::Ticks;
+use position_set::PositionSet;
 
 /// What is kept of a prefix.
 #[derive(Clone, Copy, Debug)]

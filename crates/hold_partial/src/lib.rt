@@ -13,7 +13,6 @@ mod loads;
 mod moves;
 mod outlook;
 mod partial;
-mod position_set;
 mod position_table;
 mod sides;
 mod tables;

@@ -10,8 +10,8 @@ ghost use Rattle.hold_partial.specs.Placing.{placing_of};
 
 use crate::ahead::Ahead;
 use crate::board::Board;
-use crate::position_set::PositionSet;
 use hold_reach::{Extent, Span, gap_to_ideal, meets_window};
+use position_set::PositionSet;
 use std::marker::Model;
 
 /// The next container of a placement, and what is ahead wherever it goes.

@@ -4,14 +4,14 @@ ghost use Rattle.std.specs.Prelude.{◌≡◌, ◌<◌, ◌≤◌, ◌&&◌, ◌
 ghost use Rattle.hold_limits.specs.Enumeration.{exclude};
 ghost use Rattle.hold_limits.specs.Faults.{IsLawfulHold};
 ghost use Rattle.hold_partial.specs.Arrangement.{IsByInfluence, ranked_of};
-ghost use Rattle.hold_partial.specs.Sets.{Stands};
+ghost use Rattle.position_set.specs.Sets.{Stands};
 ghost use Rattle.hold_partial.specs.Tables.{IsPositionEntry, IsPositionTable};
 
 use crate::arrangement::{Ranked, ranks_of};
-use crate::position_set::PositionSet;
 use arrayvec::ArrayVec;
 use hold_limits::Hold;
 use mass_units::Kg;
+use position_set::PositionSet;
 
 /// What is looked up of a position.
 #[derive(Clone, Copy, Debug, Default)]

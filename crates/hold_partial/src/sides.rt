@@ -4,12 +4,12 @@ ghost use Rattle.std.specs.Prelude.{◌≡◌, ◌<◌, ◌≤ℤ◌, ◌&&◌, 
 ghost use Rattle.hold_limits.specs.Lateral.{side_at};
 ghost use Rattle.hold_limits.specs.Faults.{IsLawfulHold};
 ghost use Rattle.hold_partial.specs.Arrangement.{IsByInfluence};
-ghost use Rattle.hold_partial.specs.Sets.{has, Stands};
+ghost use Rattle.position_set.specs.Sets.{has, Stands};
 ghost use Rattle.hold_partial.specs.Tables.{IsSides, AreApart, side_in};
 
 use crate::arrangement::{Ranked, ranks_of};
-use crate::position_set::PositionSet;
 use hold_limits::Hold;
+use position_set::PositionSet;
 
 /// The positions on the right and on the left, by their ranks in the order of influence.
 #[derive(Clone, Copy, Debug)]

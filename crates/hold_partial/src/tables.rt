@@ -5,18 +5,18 @@ ghost use Rattle.hold_reach.specs.declared.extent.Extent.TheVariants.{Reach};
 ghost use Rattle.hold_partial.specs.Arrangement.{Ranked};
 ghost use Rattle.hold_partial.specs.Kept.{AreLimitLists};
 ghost use Rattle.hold_partial.specs.Levels.{IsSpanOnRanks};
-ghost use Rattle.hold_partial.specs.Sets.{has};
+ghost use Rattle.position_set.specs.Sets.{has};
 
 use crate::arrangement::{Arrangement, by_influence};
 use crate::demand::{Demands, demands_of};
 use crate::limit_table::{LimitList, LimitMasses, allowed_masses, limits_at};
-use crate::position_set::PositionSet;
 use crate::position_table::{PositionTable, position_table_of};
 use crate::sides::Sides;
 use arrayvec::ArrayVec;
 use hold_limits::{Hold, Task};
 use hold_reach::{Extent, Span};
 use mass_units::Kg;
+use position_set::PositionSet;
 
 /// The limits that speak of each position, by its number.
 pub type LimitLists = ArrayVec<LimitList, 64>;

@@ -1,6 +1,6 @@
 use Rattle.std.proofs.Common.{◌&&◌, nat_lt}
 use Rattle.hold_limits.specs.Enumeration.{is_accepted}
-use Rattle.hold_partial.specs.Sets.{Stands}
+use Rattle.position_set.specs.Sets.{Stands}
 use Rattle.hold_partial.proofs.demand.accepting_positions.Given as goal
 
 abbrev pub invariant-loop-number : goal.invariant-loop-number

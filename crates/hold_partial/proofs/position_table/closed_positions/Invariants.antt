@@ -1,5 +1,5 @@
 use Rattle.std.proofs.Common.{◌&&◌, nat_lt, nat_le}
-use Rattle.hold_partial.specs.Sets.{Stands}
+use Rattle.position_set.specs.Sets.{Stands}
 use Rattle.hold_partial.proofs.position_table.closed_positions.Given as goal
 
 abbrev pub invariant-loop-other : goal.invariant-loop-other

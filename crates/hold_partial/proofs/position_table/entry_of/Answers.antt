@@ -2,7 +2,7 @@ use Rattle.std.proofs.Common.{◌≡◌, ◌||◌, ◌==◌, true, nat_lt, nat_l
 use Rattle.std.proofs.lemmas.Bool.Decides.{nat_tests}
 use Rattle.std.proofs.lemmas.Int.{ints}
 use Rattle.hold_limits.specs.Enumeration.{exclude}
-use Rattle.hold_partial.specs.Sets.{has}
+use Rattle.position_set.specs.Sets.{has}
 use Rattle.hold_partial.proofs.AheadLemmas.{blocked-by}
 use Rattle.hold_partial.proofs.ArrangementLemmas.{at_rank-same}
 use Rattle.hold_partial.proofs.position_table.entry_of.Goals as goal

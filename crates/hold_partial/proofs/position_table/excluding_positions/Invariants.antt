@@ -1,6 +1,6 @@
 use Rattle.std.proofs.Common.{◌&&◌, nat_lt}
 use Rattle.hold_limits.specs.Enumeration.{exclude}
-use Rattle.hold_partial.specs.Sets.{Stands}
+use Rattle.position_set.specs.Sets.{Stands}
 use Rattle.hold_partial.proofs.position_table.excluding_positions.Given as goal
 
 abbrev pub invariant-loop-other : goal.invariant-loop-other

@@ -1,6 +1,6 @@
 use Rattle.std.proofs.Common.{◌&&◌, pos, int_lt, nat_lt}
 use Rattle.hold_limits.specs.Lateral.{side_at}
-use Rattle.hold_partial.specs.Sets.{Stands}
+use Rattle.position_set.specs.Sets.{Stands}
 use Rattle.hold_partial.proofs.sides.right_positions.Given as goal
 
 abbrev pub invariant-loop-number : goal.invariant-loop-number

@@ -1,5 +1,5 @@
 use Rattle.std.proofs.Common.{⊎_elim, get_or, ◌∙◌}
-use Rattle.hold_partial.specs.Sets.{has}
+use Rattle.position_set.specs.Sets.{has}
 use Rattle.hold_partial.proofs.KeptLemmas.{no_set, no_level, no_demand, level-is, demand-is, demand-class, closed-is}
 use Rattle.hold_partial.proofs.LevelSteps.{free-ranks, open-ranks}
 use Rattle.hold_partial.proofs.board.Board.places_for.Goals as goal

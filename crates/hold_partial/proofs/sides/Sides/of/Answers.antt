@@ -1,7 +1,7 @@
 use Rattle.std.proofs.Common.{◌≡◌, true, pos, int_lt, nat_lt, length, ◌∙◌, refl, arith}
 use Rattle.std.proofs.lemmas.Bool.Decides.{nat_tests}
 use Rattle.hold_limits.specs.Lateral.{side_at}
-use Rattle.hold_partial.specs.Sets.{has}
+use Rattle.position_set.specs.Sets.{has}
 use Rattle.hold_partial.proofs.ArrangementLemmas.{at_rank-same}
 use Rattle.hold_partial.proofs.sides.Sides.of.Goals as goal
 

@@ -1,5 +1,5 @@
 use Rattle.std.proofs.Common.{⊎_elim, pos}
-use Rattle.hold_partial.specs.Sets.{has}
+use Rattle.position_set.specs.Sets.{has}
 use Rattle.hold_partial.proofs.RankLemmas.{last-greatest}
 use Rattle.hold_partial.proofs.SideLemmas.{sides-apart}
 use Rattle.hold_partial.proofs.tables.Tables.greatest_at.Goals as goal

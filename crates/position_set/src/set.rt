@@ -1,10 +1,10 @@
 //! Sets of positions. A hold has at most 64, so that a set of them fits one machine word.
 
-ghost use Rattle.std.specs.Prelude.{◌≡◌, ◌<◌, ◌≤◌, ◌&&◌, ◌||◌, ◌==◌, ℕ, not, true, false, IsTrue, MatchOption};
-ghost use Rattle.hold_partial.specs.Sets.{has};
+ghost use Rattle.std.specs.Prelude.{◌≡◌, ◌↔◌, ◌<◌, ◌≤◌, ◌∷◌, [], ◌&&◌, ◌||◌, ◌==◌, ℕ, length, not, true, false, IsTrue, MatchOption};
+ghost use Rattle.position_set.specs.Sets.{has, members};
 
 /// A set of numbers below 64.
-#[derive(Clone, Copy, Debug, Default)]
+#[derive(Clone, Copy, Debug, Default, PartialEq, Eq)]
 pub struct PositionSet(u64);
 
 impl PositionSet {
@@ -62,7 +62,7 @@ impl PositionSet {
 
     /// Whether there is no number.
     pub fn is_empty(self) -> bool
-        ensures { IsTrue result → (q : ℕ) → has self q ≡ false }
+        ensures { IsTrue result ↔ ((q : ℕ) → has self q ≡ false) }
     {
         self.first().is_none()
     }
@@ -91,5 +91,57 @@ impl PositionSet {
         } else {
             Some(63 - self.0.leading_zeros() as u8)
         }
+    }
+
+    /// The set of one number.
+    pub fn of(number: u8) -> PositionSet
+        requires { number < 64 }
+        ensures { (q : ℕ) → has result q ≡ (q == number) }
+    {
+        PositionSet::empty().with(number)
+    }
+
+    /// The set without one number.
+    pub fn without(self, number: u8) -> PositionSet
+        requires { number < 64 }
+        ensures { (q : ℕ) → has result q ≡ (has self q && not (q == number)) }
+    {
+        self.difference(PositionSet::of(number))
+    }
+
+    /// How many numbers there are.
+    pub fn size(self) -> u8
+        ensures { result ≤ 64 }
+    {
+        self.0.count_ones() as u8
+    }
+
+    /// The only number, if there is just one.
+    pub fn only(self) -> Option<u8>
+        ensures { MatchOption result (length (members self) ≡ 1 → ⊥) (λ q. members self ≡ q ∷ []) }
+    {
+        let first = self.first()?;
+        if self.without(first).is_empty() {
+            Some(first)
+        } else {
+            None
+        }
+    }
+
+    /// Whether a number is in both sets.
+    pub fn meets(self, other: PositionSet) -> bool
+        ensures { IsTrue result ↔ ((q : ℕ) × (has self q ≡ true) × (has other q ≡ true)) }
+    {
+        self.intersection(other).first().is_some()
+    }
+
+    /// Takes out the least number.
+    pub fn take_first(&mut self) -> Option<u8>
+        ensures { MatchOption result (members self.old ≡ [])
+            (λ q. (q < 64) × (members self.old ≡ q ∷ members self.new)) }
+    {
+        let first = self.first()?;
+        *self = self.without(first);
+        Some(first)
     }
 }

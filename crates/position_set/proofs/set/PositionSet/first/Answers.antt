@@ -1,6 +1,6 @@
 use Rattle.std.proofs.Common.{arith}
-use Rattle.hold_partial.proofs.SetLemmas.{has-none, first-is}
-use Rattle.hold_partial.proofs.position_set.PositionSet.first.Goals as goal
+use Rattle.position_set.proofs.SetLemmas.{has-none, first-is}
+use Rattle.position_set.proofs.set.PositionSet.first.Goals as goal
 
 pub returns-then-self-eq0 : goal.returns-then-self-eq0
 returns-then-self-eq0 c = has-none c.args.self (omega (arith))

@@ -6,8 +6,8 @@ use Rattle.std.proofs.lemmas.Nat.{leading_top}
 use Rattle.std.proofs.lemmas.Nat.Bits.{bit_at-zero, bit_at-lt, bit_at_and, bit_at_or, bit_at_not, bit_at_set_same, bit_at_set_other, bit_at_above, bit_at-trailing_zeros, shr_and_one, bit_at_cat_high}
 use Rattle.std.proofs.Math.Nat.{pow-suc}
 use Rattle.std.specs.Int.{bit_at, bit_not, trailing_zeros, leading_zeros}
-use Rattle.hold_partial.specs.declared.position_set.PositionSet.{PositionSet}
-use Rattle.hold_partial.specs.Sets.{has}
+use Rattle.position_set.specs.declared.set.PositionSet.{PositionSet}
+use Rattle.position_set.specs.Sets.{has}
 
 pub lt-or-le : (a b : ℕ) → (a < b) ⊎ (b ≤ a)
 lt-or-le a b = ⊎_elim (λ (less : nat_lt a b ≡ true). inl (ltb-true a b less)) (λ (not_less : nat_lt a b ≡ false). inr (ltb-false a b not_less)) (cases_Bool (nat_lt a b))

@@ -1,5 +1,0 @@
-use Rattle.hold_partial.proofs.SetLemmas.{has-with}
-use Rattle.hold_partial.proofs.position_set.PositionSet.with.Goals as goal
-
-pub returns : goal.returns
-returns c = λ q. has-with c.args.self.0 c.args.number q c.requires
