@@ -12,3 +12,5 @@ mod late_changes;
 mod rows;
 #[cfg(test)]
 mod states;
+#[cfg(test)]
+mod worked_day;
