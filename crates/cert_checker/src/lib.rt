@@ -17,6 +17,3 @@ pub use laws::certificate_laws;
 pub use no_plan::NoPlan;
 pub use proven::Proven;
 pub use reject::Reject;
-
-#[cfg(test)]
-mod tests;

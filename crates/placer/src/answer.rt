@@ -73,6 +73,3 @@ impl Placing for Direct {
         place(alloc, task, budget)
     }
 }
-
-#[cfg(test)]
-mod tests;

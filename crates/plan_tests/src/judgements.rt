@@ -1,167 +1,31 @@
 // Certificates of small tasks: the worked ones, and many beside a plain program of what makes the first reason.
-ghost use Rattle.std.specs.Prelude.{◌≤◌, All, IfOk};
-ghost use Rattle.hold_parts.specs.declared.lists.Fit.{Fit};
-ghost use Rattle.hold_parts.specs.Spellings.{IsKind};
-
-use super::*;
+use crate::small_tasks::{Edit, task_with};
+use cert_checker::{NoPlan, Proven, Reject, check};
 use certificate::{Certificate, Claim};
-use hold_limits::{
-    Combined, Cumulative, Fit, Hold, Item, Loose, Name, Path, Position, Task, UldId, hold_index_of,
-    is_in_window, is_sound, outcome,
-};
+use hold_limits::{Path, Task, hold_index_of, is_in_window, is_sound, outcome};
 use hold_reach::reference_reach::{bound_of, is_prefix_viable};
-use mass_units::{Kg, Ticks};
 use std::alloc::Global;
 use std::test::Fail;
 
-// A position for containers of kind AKE of at most 1,500 kg, or a bulk position.
-fn position(alloc: Global, name: &[u8], influence: i32, bulk: bool) -> Result<Position, Fail>
-    ensures compartment { IfOk result (λ position. position.compartment ≤ 9) }
-    ensures kinds { IfOk result (λ position. All (λ (fit : Fit). IsKind fit.kind) position.fits) }
-{
-    let mut fits = Vec::new(alloc);
-    if !bulk {
-        fits.push(Fit {
-            kind: *b"AKE",
-            most: Kg(1500),
-        })?;
-    }
-    Ok(Position {
-        name: Name::read(name).ok_or("a name")?,
-        compartment: 1,
-        influence,
-        bulk,
-        fits: fits.into(),
-    })
-}
+const NARROW: Edit = ("-100.00000 100.00000", "0.00000 0.00000");
 
-// A small task: in a hold with the container positions 0 to 3 and the bulk position 4, of base 50.00000.
-#[derive(Clone, Copy)]
-struct Case {
-    name: &'static str,
-    masses: &'static [u32],
-    excludes: &'static [(u8, u8)],
-    // The greatest load of the positions 0 and 4 together, and a loose load on the bulk position.
-    combined: u32,
-    loose: u32,
-    // The window and the ideal band.
-    window: (i64, i64),
-    ideal: (i64, i64),
-}
-
-// What a limit allows.
-fn most(mass: u32) -> Kg
-    ensures { result.0 ≤ 999999999 }
-{
-    Kg(mass.min(999_999_999))
-}
-
-fn hold(alloc: Global, case: &Case) -> Result<Hold, Fail> {
-    let positions = vec![in alloc;
-        position(alloc, b"11", -600, false)?,
-        position(alloc, b"12", -400, false)?,
-        position(alloc, b"41", 400, false)?,
-        position(alloc, b"42", 600, false)?,
-        position(alloc, b"51", 700, true)?,
-    ]?;
-    let combined = vec![in alloc;
-        Combined {
-            places: vec![in alloc; 0, 4]?.into(),
-            most: most(case.combined)
-        },
-    ]?;
-    let cumulative = vec![in alloc;
-        Cumulative {
-            forward: true,
-            place: 1,
-            most: most(999_999_999)
-        },
-    ]?;
-    Ok(Hold::new(
-        positions,
-        case.excludes.to_vec(alloc)?,
-        combined,
-        cumulative,
-    )?)
-}
-
-fn task(alloc: Global, case: &Case) -> Result<Task, Fail> {
-    let names: [&[u8]; 3] = [b"AKE10001XX", b"AKE10002XX", b"AKE10003XX"];
-    let mut items = Vec::new(alloc);
-    for (name, mass) in names.iter().zip(case.masses) {
-        items.push(Item {
-            id: UldId::read(name).ok_or("an identity")?,
-            mass: Kg(*mass),
-        })?;
-    }
-    let loose = vec![in alloc;
-        Loose {
-            position: 4,
-            mass: Kg(case.loose)
-        },
-    ]?;
-    Ok(Task::new(
-        hold(alloc, case)?,
-        items,
-        loose,
-        Ticks(5_000_000),
-        Ticks(case.window.0),
-        Ticks(case.window.1),
-        Ticks(case.ideal.0),
-        Ticks(case.ideal.1),
-    )?)
-}
-
-const WORKED: Case = Case {
-    name: "the worked task",
-    masses: &[1000, 800],
-    excludes: &[],
-    combined: 999_999_999,
-    loose: 0,
-    window: (-10_000_000, 10_000_000),
-    ideal: (5_000_000, 5_000_000),
-};
-
-const NARROW: Case = Case {
-    name: "a window of one index",
-    window: (0, 0),
-    ..WORKED
-};
-
-const SMALL_TASKS: [Case; 8] = [
-    WORKED,
-    NARROW,
-    Case {
-        name: "two twins",
-        masses: &[1000, 1000],
-        ..WORKED
-    },
-    Case {
-        name: "an excluding pair",
-        excludes: &[(1, 2)],
-        ..WORKED
-    },
-    Case {
-        name: "equal distances",
-        ideal: (0, 10_000_000),
-        ..WORKED
-    },
-    Case {
-        name: "one container",
-        masses: &[700],
-        ..WORKED
-    },
-    Case {
-        name: "no container",
-        masses: &[],
-        ..WORKED
-    },
-    Case {
-        name: "loose loads over a limit",
-        combined: 99,
-        loose: 100,
-        ..WORKED
-    },
+/// The worked task, one of a window of one index, two twins, an excluding pair, equal distances, one container,
+/// none, and loose loads over a limit.
+const SMALL_TASKS: &[&[Edit]] = &[
+    &[],
+    &[NARROW],
+    &[("item AKE10002XX 800", "item AKE10002XX 1000")],
+    &[("item AKE10001XX", "exclude 12 41\nitem AKE10001XX")],
+    &[("ideal 50.00000 50.00000", "ideal 0.00000 100.00000")],
+    &[(
+        "item AKE10001XX 1000\nitem AKE10002XX 800",
+        "item AKE10001XX 700",
+    )],
+    &[("item AKE10001XX 1000\nitem AKE10002XX 800\n", "")],
+    &[
+        ("item AKE10001XX", "combined 99 11 51\nitem AKE10001XX"),
+        ("base", "loose 51 100\nbase"),
+    ],
 ];
 
 // The cuts that are spelled so: each is its numbers, and a 9 after them.
@@ -257,7 +121,7 @@ fn row(
 
 // Whether a check says so of the certificate of the worked task.
 fn is_judged(alloc: Global, row: Judged) -> Result<bool, Fail> {
-    let task = task(alloc, &WORKED)?;
+    let task = task_with(alloc, &[])?;
     let certificate = certificate(alloc, row.claim, row.cuts, row.expanded)?;
     let verdict = check(&task, &certificate);
     Ok(
@@ -287,12 +151,12 @@ fn the_worked_certificates_are_judged(rt: HostRuntime) -> Result<(), Fail> {
 #[test]
 fn evidence_is_kept_with_its_task(rt: HostRuntime) -> Result<(), Fail> {
     let best = certificate(rt.alloc(), Some(&[1, 2]), &[0, 9, 3, 9], 3)?;
-    let proven = Proven::new(task(rt.alloc(), &WORKED)?, best)?;
+    let proven = Proven::new(task_with(rt.alloc(), &[])?, best)?;
     assert_eq!(rt; proven.path().as_slice(), &[1u8, 2][..]);
     assert_eq!(rt; proven.task().items().len(), 2);
     assert_eq!(rt; proven.certificate().expanded, 3);
     let none = certificate(rt.alloc(), None, &[], 3)?;
-    let no_plan = NoPlan::new(task(rt.alloc(), &NARROW)?, none)?;
+    let no_plan = NoPlan::new(task_with(rt.alloc(), &[NARROW])?, none)?;
     assert_eq!(rt; no_plan.task().items().len(), 2);
     assert_eq!(rt; no_plan.certificate().expanded, 3);
     Ok(())
@@ -430,12 +294,12 @@ fn agreed(task: &Task, prefixes: &[Vec<u8>], certificate: &Certificate) -> Resul
 // The numbers of the reasons against certificates with this claim, these cuts, and the numbers 0 to 6.
 fn agree_on(
     alloc: Global,
-    case: &Case,
+    edits: &[Edit],
     claim: Option<&[u8]>,
     cuts: &[u8],
 ) -> Result<Vec<u8>, Fail> {
-    let task = task(alloc, case)?;
-    let prefixes = all_prefixes(alloc, case.masses.len().min(2))?;
+    let task = task_with(alloc, edits)?;
+    let prefixes = all_prefixes(alloc, task.items().len().min(2))?;
     let mut numbers = Vec::new(alloc);
     for expanded in 0..7 {
         let certificate = certificate(alloc, claim, cuts, expanded)?;
@@ -476,10 +340,10 @@ const CUTS: [&[u8]; 14] = [
 // The numbers of the reasons against many certificates of the small tasks.
 fn all_numbers(alloc: Global) -> Result<Vec<u8>, Fail> {
     let mut all = Vec::new(alloc);
-    for case in SMALL_TASKS {
+    for edits in SMALL_TASKS {
         for claim in CLAIMS {
             for cuts in CUTS {
-                for number in agree_on(alloc, &case, claim, cuts)? {
+                for number in agree_on(alloc, edits, claim, cuts)? {
                     all.push(number)?;
                 }
             }

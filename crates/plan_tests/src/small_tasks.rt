@@ -1,0 +1,31 @@
+// Small tasks in a hold with four container positions, numbered 0 to 3, and a bulk position, as edits of one text.
+use hold_limits::Task;
+use problem_text::read_task;
+use std::alloc::Global;
+use std::test::Fail;
+
+const WORKED: &str = "TASK 1
+position 11 1 -600 AKE 1500
+position 12 1 -400 AKE 1500
+position 41 4 400 AKE 1500
+position 42 4 600 AKE 1500
+bulk 51 5 700
+item AKE10001XX 1000
+item AKE10002XX 800
+base 50.00000
+window -100.00000 100.00000
+ideal 50.00000 50.00000
+END
+";
+
+/// A text of the worked task, and what stands in its place.
+pub type Edit = (&'static str, &'static str);
+
+/// The task whose text has these edits.
+pub fn task_with(alloc: Global, edits: &[Edit]) -> Result<Task, Fail> {
+    let mut text = String::from_str(alloc, WORKED)?;
+    for (old, new) in edits {
+        text = text.replace(alloc, *old, new)?;
+    }
+    Ok(read_task(alloc, text.as_bytes())?)
+}
