@@ -90,6 +90,3 @@ pub fn lateral_of(task: &Task, path: &Path) -> i64
 {
     lateral_difference_of(task, path.as_slice())
 }
-
-#[cfg(test)]
-mod tests;

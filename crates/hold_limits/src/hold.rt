@@ -236,6 +236,3 @@ impl Hold {
             && self.lateral.is_same(&other.lateral)
     }
 }
-
-#[cfg(test)]
-mod tests;

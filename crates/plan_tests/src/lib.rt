@@ -1,9 +1,13 @@
-//! Tests of the search and of the judgement of certificates, over small tasks.
+//! Tests of holds and tasks, of the search and of the judgement of certificates.
 //! They stand apart, since a crate with tests is proved twice.
 #![tactic(auto)]
 
 #[cfg(test)]
 mod answers;
+#[cfg(test)]
+mod balances;
+#[cfg(test)]
+mod hold_faults;
 #[cfg(test)]
 mod judgements;
 #[cfg(test)]

@@ -1,121 +1,37 @@
-// A hold of two compartments, fore and aft, and what placements of a few containers in it are worth.
-ghost use Rattle.std.specs.Prelude.{◌≤◌, ◌≡◌, All, IfOk};
-ghost use Rattle.hold_parts.specs.declared.lists.Fit.{Fit};
-ghost use Rattle.hold_parts.specs.Spellings.{IsKind};
-
-use super::*;
-use crate::fault::{HoldFault, TaskFault};
-use crate::hold::Hold;
-use crate::rising::is_rising;
-use crate::sound::is_sound;
-use hold_parts::{Fit, Item, Lateral, Loose, Name, Position, UldId};
-use mass_units::Kg;
+// Tasks of a few containers in a hold of two compartments, and what placements of them are worth.
+use crate::small_tasks::{Edit, task_with};
+use hold_limits::{
+    Hold, HoldFault, Item, Lateral, Loose, Path, Task, TaskFault, UldId, distance_from_ideal,
+    hold_index_of, is_in_window, is_rising, is_sound, lateral_difference_of, lateral_of, outcome,
+};
+use mass_units::{Kg, Ticks};
 use std::alloc::Global;
 use std::test::Fail;
 
-// A position for containers of kind AKE of at most 1,500 kg, or a bulk position.
-fn position(
-    alloc: Global,
-    name: &[u8],
-    compartment: u8,
-    influence: i32,
-    bulk: bool,
-) -> Result<Position, Fail>
-    requires { compartment ≤ 9 }
-    ensures compartment { IfOk result (λ position. position.compartment ≤ 9) }
-    ensures kinds { IfOk result (λ position. All (λ (fit : Fit). IsKind fit.kind) position.fits) }
-{
-    let mut fits = Vec::new(alloc);
-    if !bulk {
-        fits.push(Fit {
-            kind: *b"AKE",
-            most: Kg(1500),
-        })?;
-    }
-    Ok(Position {
-        name: Name::read(name).ok_or("a name")?,
-        compartment,
-        influence,
-        bulk,
-        fits: fits.into(),
-    })
-}
+/// The containers offered the other way round, so that branch order turns them back.
+const TURNED: Edit = (
+    "item AKE10001XX 1000\nitem AKE10002XX 800\n",
+    "item AKE10002XX 800\nitem AKE10001XX 1000\n",
+);
 
-// Positions 0 to 3 for containers, and the bulk position 4.
-fn hold(alloc: Global) -> Result<Hold, Fail> {
-    let positions = vec![in alloc;
-        position(alloc, b"11", 1, -600, false)?,
-        position(alloc, b"12", 1, -400, false)?,
-        position(alloc, b"41", 4, 400, false)?,
-        position(alloc, b"42", 4, 600, false)?,
-        position(alloc, b"51", 5, 700, true)?,
-    ]?;
-    Ok(Hold::new(positions, Vec::new(alloc), Vec::new(alloc), Vec::new(alloc))?)
-}
+const BULK_100: Edit = ("base", "loose 51 100\nbase");
 
-fn item(id: &[u8], mass: u32) -> Result<Item, Fail> {
-    Ok(Item {
-        id: UldId::read(id).ok_or("an identity")?,
-        mass: Kg(mass),
-    })
-}
+const TASK_2: Edit = ("TASK 1", "TASK 2");
 
-// A limit on the difference of the masses right and left.
-fn lateral(alloc: Global, most: u32, sides: &[(u8, bool)]) -> Result<Lateral, Fail>
-    requires { most ≤ 999999999 }
-    ensures { IfOk result (λ lateral. lateral.most.0 ≤ 999999999) }
-{
-    Ok(Lateral {
-        most: Kg(most),
-        sides: sides.to_vec(alloc)?.into(),
-    })
-}
-
-// The hold with 11 and 42 on the right, 12 and 41 on the left, and the bulk position on the right.
-fn sided_hold(alloc: Global) -> Result<Hold, Fail> {
-    let sides = [(0, true), (1, false), (2, false), (3, true), (4, true)];
-    Ok(hold(alloc)?.with_lateral(lateral(alloc, 500, &sides)?)?)
-}
-
-// A task of these containers: base 50.00000, a window of 100.00000 either way, and the ideal band.
-fn task_of(
-    hold: Hold,
-    items: Vec<Item>,
-    loose: Vec<Loose>,
-    ideal_low: i64,
-    ideal_high: i64,
-) -> Result<Task, TaskFault> {
-    Task::new(
-        hold,
-        items,
-        loose,
-        Ticks(5_000_000),
-        Ticks(-10_000_000),
-        Ticks(10_000_000),
-        Ticks(ideal_low),
-        Ticks(ideal_high),
-    )
-}
-
-// Containers of 800 kg and 1,000 kg, offered in this order, so that branch order turns it round.
-fn two_containers(alloc: Global) -> Result<Vec<Item>, Fail> {
-    Ok(vec![in alloc; item(b"AKE10002XX", 800)?, item(b"AKE10001XX", 1000)?]?)
-}
-
-fn task(alloc: Global, loose: &[Loose], ideal_low: i64, ideal_high: i64) -> Result<Task, Fail> {
-    let items = two_containers(alloc)?;
-    let loose = loose.to_vec(alloc)?;
-    Ok(task_of(hold(alloc)?, items, loose, ideal_low, ideal_high)?)
-}
-
-fn path(numbers: &[u8]) -> Result<Path, Fail> {
-    Ok(Path::try_from(numbers)?)
-}
+/// 11 and 42 on the right, 12 and 41 on the left, and the bulk position on the right.
+const SIDES: Edit = (
+    "item AKE10001XX",
+    "side 11 right\nside 12 left\nside 41 left\nside 42 right\nside 51 right\nlateral 500\nitem AKE10001XX",
+);
 
 #[test]
 fn a_hold_knows_its_positions_by_number(rt: HostRuntime) -> Result<(), Fail> {
-    let hold = hold(rt.alloc())?;
-    let container = item(b"AKE10001XX", 1500)?;
+    let task = task_with(rt.alloc(), &[])?;
+    let hold = task.hold();
+    let container = Item {
+        id: UldId::read(b"AKE10001XX").ok_or("an identity")?,
+        mass: Kg(1500),
+    };
     assert_eq!(rt; hold.position_count(), 5);
     assert_eq!(rt; hold.name_at(3), b"42".as_slice());
     assert_eq!(rt; hold.name_at(5), b"".as_slice());
@@ -128,8 +44,8 @@ fn a_hold_knows_its_positions_by_number(rt: HostRuntime) -> Result<(), Fail> {
 
 #[test]
 fn a_path_has_its_take_off_index_and_its_distance(rt: HostRuntime) -> Result<(), Fail> {
-    let task = task(rt.alloc(), &[], 5_000_000, 5_000_000)?;
-    let path = path(&[1, 2])?;
+    let task = task_with(rt.alloc(), &[TURNED])?;
+    let path = Path::try_from([1, 2].as_slice())?;
     assert!(rt; is_sound(&task, path.as_slice()));
     assert_eq!(rt; outcome(&task, &path), (Ticks(4_920_000), 80_000));
     Ok(())
@@ -137,11 +53,7 @@ fn a_path_has_its_take_off_index_and_its_distance(rt: HostRuntime) -> Result<(),
 
 #[test]
 fn loose_loads_count_and_unknown_positions_do_not(rt: HostRuntime) -> Result<(), Fail> {
-    let loose = [Loose {
-        position: 4,
-        mass: Kg(100),
-    }];
-    let task = task(rt.alloc(), &loose, 5_000_000, 5_000_000)?;
+    let task = task_with(rt.alloc(), &[TURNED, BULK_100])?;
     let cases: [(&[u8], i64); 5] = [
         (&[], 70_000),
         (&[3], 670_000),
@@ -158,7 +70,7 @@ fn loose_loads_count_and_unknown_positions_do_not(rt: HostRuntime) -> Result<(),
 
 #[test]
 fn both_ends_belong_to_the_window(rt: HostRuntime) -> Result<(), Fail> {
-    let task = task(rt.alloc(), &[], 5_000_000, 5_000_000)?;
+    let task = task_with(rt.alloc(), &[])?;
     for inside in [-10_000_000, -9_999_999, 0, 10_000_000] {
         assert!(rt; is_in_window(&task, Ticks(inside)), "at {inside}");
     }
@@ -170,7 +82,10 @@ fn both_ends_belong_to_the_window(rt: HostRuntime) -> Result<(), Fail> {
 
 #[test]
 fn the_distance_is_to_the_nearer_end_of_the_band(rt: HostRuntime) -> Result<(), Fail> {
-    let task = task(rt.alloc(), &[], 5_000_000, 5_200_000)?;
+    let task = task_with(
+        rt.alloc(),
+        &[("ideal 50.00000 50.00000", "ideal 50.00000 52.00000")],
+    )?;
     let cases = [
         (4_920_000, 80_000),
         (5_000_000, 0),
@@ -193,10 +108,11 @@ fn the_distance_is_to_the_nearer_end_of_the_band(rt: HostRuntime) -> Result<(), 
 #[test]
 fn an_index_beyond_the_limit_is_named_by_its_number(rt: HostRuntime) -> Result<(), Fail> {
     let alloc = rt.alloc();
+    let task = task_with(alloc, &[])?;
     for which in 1..6 {
         let at = |place: usize| Ticks(if place == which { -1_000_000_001 } else { 0 });
         let made = Task::new(
-            hold(alloc)?,
+            task.hold().copy(alloc)?,
             Vec::new(alloc),
             Vec::new(alloc),
             at(1),
@@ -213,22 +129,25 @@ fn an_index_beyond_the_limit_is_named_by_its_number(rt: HostRuntime) -> Result<(
 #[test]
 fn a_copy_is_the_same_task_and_another_window_is_not(rt: HostRuntime) -> Result<(), Fail> {
     let alloc = rt.alloc();
-    let load = Loose {
-        position: 4,
-        mass: Kg(0),
-    };
-    let one = task(alloc, &[load], 5_000_000, 5_000_000)?;
+    let no_mass = ("base", "loose 51 0\nbase");
+    let one = task_with(alloc, &[no_mass])?;
     assert!(rt; one.same(&one.copy(alloc)?));
-    assert!(rt; !one.same(&task(alloc, &[], 5_000_000, 5_000_000)?));
-    assert!(rt; !one.same(&task(alloc, &[load], 5_000_000, 5_000_001)?));
+    assert!(rt; !one.same(&task_with(alloc, &[])?));
+    let wider = ("ideal 50.00000 50.00000", "ideal 50.00000 50.00001");
+    assert!(rt; !one.same(&task_with(alloc, &[no_mass, wider])?));
     Ok(())
+}
+
+/// The hold of the worked task, with or without sides.
+fn hold_with(alloc: Global, edits: &[Edit]) -> Result<Hold, Fail> {
+    Ok(task_with(alloc, edits)?.hold().copy(alloc)?)
 }
 
 #[test]
 fn a_lateral_limit_gives_positions_their_sides(rt: HostRuntime) -> Result<(), Fail> {
     let alloc = rt.alloc();
-    let plain = hold(alloc)?;
-    let sided = sided_hold(alloc)?;
+    let plain = hold_with(alloc, &[])?;
+    let sided = hold_with(alloc, &[TASK_2, SIDES])?;
     assert!(rt; plain.lateral().is_none());
     assert!(rt; plain.sides().is_empty());
     assert_eq!(rt; sided.lateral().map(|lateral| lateral.most), Some(Kg(500)));
@@ -239,7 +158,7 @@ fn a_lateral_limit_gives_positions_their_sides(rt: HostRuntime) -> Result<(), Fa
     }
     assert!(rt; sided.same(&sided.copy(alloc)?));
     assert!(rt; !sided.same(&plain));
-    let wider = hold(alloc)?.with_lateral(lateral(alloc, 501, sided.sides())?)?;
+    let wider = hold_with(alloc, &[TASK_2, SIDES, ("lateral 500", "lateral 501")])?;
     assert!(rt; !sided.same(&wider));
     Ok(())
 }
@@ -257,7 +176,11 @@ fn sides_are_of_known_positions_in_rising_order(rt: HostRuntime) -> Result<(), F
         (&[(0, true), (3, true), (9, false), (1, true)], Some(2)),
     ];
     for (sides, wrong) in cases {
-        let made = hold(alloc)?.with_lateral(lateral(alloc, 500, sides)?);
+        let lateral = Lateral {
+            most: Kg(500),
+            sides: sides.to_vec(alloc)?.into(),
+        };
+        let made = hold_with(alloc, &[])?.with_lateral(lateral);
         assert_eq!(rt; made.err(), wrong.map(HoldFault::Side));
     }
     Ok(())
@@ -265,8 +188,8 @@ fn sides_are_of_known_positions_in_rising_order(rt: HostRuntime) -> Result<(), F
 
 #[test]
 fn a_difference_that_meets_the_lateral_limit_is_within_it(rt: HostRuntime) -> Result<(), Fail> {
-    let plain = hold(rt.alloc())?;
-    let sided = sided_hold(rt.alloc())?;
+    let plain = hold_with(rt.alloc(), &[])?;
+    let sided = hold_with(rt.alloc(), &[TASK_2, SIDES])?;
     for (difference, within) in [
         (0, true),
         (500, true),
@@ -283,14 +206,7 @@ fn a_difference_that_meets_the_lateral_limit_is_within_it(rt: HostRuntime) -> Re
 
 #[test]
 fn a_lateral_difference_is_right_less_left(rt: HostRuntime) -> Result<(), Fail> {
-    let alloc = rt.alloc();
-    let bulk = vec![in alloc;
-        Loose {
-            position: 4,
-            mass: Kg(100)
-        },
-    ]?;
-    let task = task_of(sided_hold(alloc)?, two_containers(alloc)?, bulk, 0, 0)?;
+    let task = task_with(rt.alloc(), &[TASK_2, SIDES, BULK_100])?;
     let cases: [(&[u8], i64); 6] = [
         (&[], 100),
         (&[1], -900),
@@ -303,7 +219,7 @@ fn a_lateral_difference_is_right_less_left(rt: HostRuntime) -> Result<(), Fail> 
         assert!(rt; prefix.len() <= task.items().len());
         assert_eq!(rt; lateral_difference_of(&task, prefix), difference);
     }
-    let path = path(&[1, 3])?;
+    let path = Path::try_from([1, 3].as_slice())?;
     assert!(rt; is_sound(&task, path.as_slice()));
     assert_eq!(rt; lateral_of(&task, &path), -100);
     Ok(())
@@ -311,14 +227,11 @@ fn a_lateral_difference_is_right_less_left(rt: HostRuntime) -> Result<(), Fail> 
 
 #[test]
 fn twins_rise_where_the_later_has_the_greater_number(rt: HostRuntime) -> Result<(), Fail> {
-    let alloc = rt.alloc();
-    let items = vec![in alloc;
-        item(b"AKE10001XX", 900)?,
-        item(b"AKE10002XX", 1000)?,
-        item(b"PMC10003XX", 1000)?,
-        item(b"AKE10004XX", 1000)?,
-    ]?;
-    let task = task_of(hold(alloc)?, items, Vec::new(alloc), 0, 0)?;
+    let items = (
+        "item AKE10001XX 1000\nitem AKE10002XX 800\n",
+        "item AKE10001XX 900\nitem AKE10002XX 1000\nitem PMC10003XX 1000\nitem AKE10004XX 1000\n",
+    );
+    let task = task_with(rt.alloc(), &[items])?;
     let cases: [(&[u8], bool); 7] = [
         (&[], true),
         (&[3, 2], true),
@@ -344,9 +257,23 @@ fn a_task_has_up_to_sixty_containers(rt: HostRuntime) -> Result<(), Fail> {
             let mut id = *b"AKE10000XX";
             id[6] += number / 10;
             id[7] += number % 10;
-            items.push(item(&id, 1000)?)?;
+            items.push(Item {
+                id: UldId::read(&id).ok_or("an identity")?,
+                mass: Kg(1000),
+            })?;
         }
-        let made = task_of(hold(alloc)?, items, Vec::new(alloc), 0, 0);
+        let hold = hold_with(alloc, &[])?;
+        let loose: Vec<Loose> = Vec::new(alloc);
+        let made = Task::new(
+            hold,
+            items,
+            loose,
+            Ticks(0),
+            Ticks(0),
+            Ticks(0),
+            Ticks(0),
+            Ticks(0),
+        );
         assert_eq!(rt; made.err(), fault, "{count}");
     }
     Ok(())

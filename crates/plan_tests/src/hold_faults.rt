@@ -5,9 +5,7 @@ ghost use Rattle.hold_parts.specs.declared.parts.Combined.{Combined};
 ghost use Rattle.hold_parts.specs.declared.parts.Cumulative.{Cumulative};
 ghost use Rattle.hold_parts.specs.Spellings.{IsKind};
 
-use super::*;
-use crate::fault::TaskFault;
-use hold_parts::{Name, Places};
+use hold_limits::{Combined, Cumulative, Hold, HoldFault, Name, Places, Position, TaskFault};
 use mass_units::Kg;
 use std::alloc::Global;
 use std::test::Fail;

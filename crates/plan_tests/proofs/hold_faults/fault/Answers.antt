@@ -4,7 +4,7 @@ use Rattle.std.specs.Prelude.{All}
 use Rattle.hold_parts.specs.declared.lists.Fit.{Fit}
 use Rattle.hold_parts.specs.declared.parts.Position.{Position}
 use Rattle.hold_parts.specs.Spellings.{IsKind}
-use Rattle.hold_limits.proofs.hold.tests.fault.Goals as goal
+use Rattle.plan_tests.proofs.hold_faults.fault.Goals as goal
 
 HasDigit : Position → Type 0
 HasDigit position = position.compartment ≤ 9
