@@ -1,7 +1,11 @@
-//! Tests of the figures' crates: envelopes, fuel tables, limits of mass, payloads, the parts of a hold, keepers.
+//! Tests of the figures' crates: masses and indices, envelopes, fuel tables, limits of mass, payloads, the parts of a hold, keepers.
 //! They stand apart, since a crate with tests is proved twice.
 #![tactic(auto)]
 
+#[cfg(test)]
+mod chains;
+#[cfg(test)]
+mod chords;
 #[cfg(test)]
 mod envelopes;
 #[cfg(test)]
@@ -14,3 +18,9 @@ mod limits;
 mod parts;
 #[cfg(test)]
 mod payloads;
+#[cfg(test)]
+mod slopes;
+#[cfg(test)]
+mod spellings;
+#[cfg(test)]
+mod sums;

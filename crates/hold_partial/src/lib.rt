@@ -21,6 +21,3 @@ pub use hold_reach::{RuleBroken, reach_laws};
 pub use moves::{advances, keep_first, move_to};
 pub use outlook::Outlook;
 pub use partial::Partial;
-
-#[cfg(test)]
-mod tests;

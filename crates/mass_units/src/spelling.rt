@@ -279,6 +279,3 @@ fn append(out: &mut Vec<u8>, sign: &[u8], whole: u64, decimals: &[u8]) -> Result
     out.extend_from_slice(decimals)?;
     Ok(())
 }
-
-#[cfg(test)]
-mod tests;

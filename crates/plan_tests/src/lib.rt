@@ -1,4 +1,4 @@
-//! Tests of holds and tasks, of the search and of the judgement of certificates.
+//! Tests of holds, tasks and partial placements, of the search and of the judgement of certificates.
 //! They stand apart, since a crate with tests is proved twice.
 #![tactic(auto)]
 
@@ -10,5 +10,9 @@ mod balances;
 mod hold_faults;
 #[cfg(test)]
 mod judgements;
+#[cfg(test)]
+mod loads;
+#[cfg(test)]
+mod partials;
 #[cfg(test)]
 mod small_tasks;

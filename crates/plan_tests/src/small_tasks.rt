@@ -21,9 +21,14 @@ END
 /// A text of the worked task, and what stands in its place.
 pub type Edit = (&'static str, &'static str);
 
-/// The task whose text has these edits.
+/// The worked task with these edits.
 pub fn task_with(alloc: Global, edits: &[Edit]) -> Result<Task, Fail> {
-    let mut text = String::from_str(alloc, WORKED)?;
+    task_from(alloc, WORKED, edits)
+}
+
+/// The task of the text with these edits.
+pub fn task_from(alloc: Global, text: &str, edits: &[Edit]) -> Result<Task, Fail> {
+    let mut text = String::from_str(alloc, text)?;
     for (old, new) in edits {
         text = text.replace(alloc, *old, new)?;
     }

@@ -1,5 +1,9 @@
-use super::*;
-use std::alloc::AllocError;
+// Texts of numbers and indices.
+use mass_units::{
+    NumFault, Ticks, read_long_number, read_number, read_signed, read_ticks5, write_number,
+    write_signed, write_ticks2, write_ticks5,
+};
+use std::alloc::Global;
 use std::test::Fail;
 
 fn written(alloc: Global, ticks: i64) -> Result<String, Fail> {
