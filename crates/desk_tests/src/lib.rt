@@ -1,4 +1,4 @@
-//! Tests of the desk's crates: what the history of an office says, routes, bodies and answers.
+//! Tests of the desk's crates: what the history of an office says, routes, bodies, requests and answers.
 //! They stand apart, since a crate with tests is proved twice.
 #![tactic(auto)]
 
@@ -8,5 +8,7 @@ mod answers;
 mod bodies;
 #[cfg(test)]
 mod histories;
+#[cfg(test)]
+mod requests;
 #[cfg(test)]
 mod routes;
