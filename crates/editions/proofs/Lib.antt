@@ -1,0 +1,12 @@
+pub mod PlaceLemmas
+pub mod TurnLemmas
+pub mod ReadyLemmas
+pub mod AskLemmas
+pub mod AnswerLemmas
+pub mod BestLemmas
+pub mod OfficeLemmas
+pub mod StartLemmas
+pub mod SettleLemmas
+pub mod ReasonLemmas
+pub mod ReopenLemmas
+pub mod ReleasedLemmas

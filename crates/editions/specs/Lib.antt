@@ -1,0 +1,9 @@
+pub mod Sound
+pub mod Documents
+pub mod Acts
+pub mod Answers
+pub mod Places
+pub mod Settled
+pub mod Books
+pub mod StartRows
+pub mod Starting

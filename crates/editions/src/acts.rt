@@ -1,0 +1,45 @@
+//! What is written down of a request.
+
+ghost use Rattle.std.specs.Prelude.{◌≡◌};
+ghost use Rattle.editions.specs.Acts.{IsActWith, key_asked};
+
+use flight_history::{Act, Request, copy_of};
+use flight_state::FlightKey;
+
+/// The key of the flight that a request is about.
+pub fn key_of(request: &Request) -> FlightKey
+    ensures { result ≡ key_asked request.now }
+{
+    match request {
+        Request::NewFlight { leg } => FlightKey::of(leg),
+        Request::Set { key, .. } => key.copy(),
+        Request::Take { key, .. } => key.copy(),
+        Request::Install { key, .. } => key.copy(),
+        Request::Release { key, .. } => key.copy(),
+        Request::Late { key, .. } => key.copy(),
+        Request::Reopen { key, .. } => key.copy(),
+        Request::Depart { key, .. } => key.copy(),
+        Request::Show { key, .. } => key.copy(),
+    }
+}
+
+/// What a request asked, where this says whether its plan is for the flight's effective figures.
+pub fn act_of(request: Request, same: bool) -> Act
+    ensures { IsActWith same request result }
+{
+    match request {
+        Request::NewFlight { leg } => Act::NewFlight { leg },
+        Request::Set { edition, part, .. } => Act::Set { edition, part },
+        Request::Take { edition, .. } => Act::Take { edition },
+        Request::Install { edition, plan, .. } => Act::Install {
+            edition,
+            path: copy_of(plan.path()),
+            same,
+        },
+        Request::Release { edition, .. } => Act::Release { edition },
+        Request::Late { edition, lmc, .. } => Act::Late { edition, lmc },
+        Request::Reopen { edition, .. } => Act::Reopen { edition },
+        Request::Depart { edition, .. } => Act::Depart { edition },
+        Request::Show { what, .. } => Act::Show { what },
+    }
+}
