@@ -1,0 +1,12 @@
+//! Paths near others: by moves of containers to free positions and exchanges, towards the ticks, or towards keeping all
+//! limits. Nothing rests on whether one is found.
+#![tactic(auto)]
+
+mod aim;
+mod mending;
+mod moves;
+mod reaching;
+mod two_moves;
+
+pub use mending::mend;
+pub use reaching::reach;

@@ -1,0 +1,99 @@
+//! What containers cost on positions.
+
+use position_set::PositionSet;
+use search_tables::{End, Limit, Load, each_of};
+
+/// A container costs a rate for each kilogram on its position, and a fee.
+#[derive(Clone, Copy, Debug)]
+pub struct Costs {
+    rates: [i64; 64],
+    fees: [i64; 64],
+}
+
+impl Costs {
+    /// Without prices: the influences, counted from an end.
+    pub fn free(load: &Load, end: End) -> Costs {
+        let mut rates = [0; 64];
+        for (rate, place) in rates.iter_mut().zip(load.places.as_slice()) {
+            *rate = end.counted(place.influence);
+        }
+        Costs {
+            rates,
+            fees: [0; 64],
+        }
+    }
+
+    /// Adds a fee on each of some positions.
+    pub fn charge(&mut self, places: PositionSet, price: i64) {
+        for number in each_of(places) {
+            let place = usize::from(number);
+            self.fees[place] = self.fees[place].saturating_add(price);
+        }
+    }
+
+    /// Adds to each position a fee of its own.
+    pub fn charge_each(&mut self, prices: &[i64; 64]) {
+        for number in 0..64 {
+            self.fees[number] = self.fees[number].saturating_add(prices[number]);
+        }
+    }
+
+    fn add_rate(&mut self, places: PositionSet, price: i64) {
+        for number in each_of(places) {
+            let place = usize::from(number);
+            self.rates[place] = self.rates[place].saturating_add(price);
+        }
+    }
+
+    /// Adds a price for each kilogram under a limit.
+    pub fn add_limit(&mut self, limit: &Limit, price: i64) {
+        self.add_rate(limit.counted, price);
+        self.add_rate(limit.discounted, price.saturating_neg());
+    }
+
+    /// What a container of a mass costs on a position.
+    pub fn cost(&self, mass: i64, number: u8) -> i64 {
+        let place = usize::from(number % 64);
+        mass.saturating_mul(self.rates[place])
+            .saturating_add(self.fees[place])
+    }
+
+    /// The least that a container of a mass costs on one of some positions; more than anything where there is none.
+    pub fn least(&self, mass: i64, set: PositionSet) -> i64 {
+        let mut least = i64::MAX;
+        for number in each_of(set) {
+            least = least.min(self.cost(mass, number));
+        }
+        least
+    }
+
+    /// How much the costs of a container differ on its positions.
+    pub fn spread(&self, mass: i64, set: PositionSet) -> i64 {
+        let mut greatest = i64::MIN;
+        for number in each_of(set) {
+            greatest = greatest.max(self.cost(mass, number));
+        }
+        greatest.saturating_sub(self.least(mass, set)).max(0)
+    }
+
+    /// The positions on which a container of a mass costs at most so much more than the least.
+    pub fn cheap(&self, mass: i64, set: PositionSet, slack: i64) -> PositionSet {
+        let least = self.least(mass, set);
+        let mut kept = set;
+        for number in each_of(set) {
+            if self.cost(mass, number).saturating_sub(least) > slack {
+                kept = kept.without(number);
+            }
+        }
+        kept
+    }
+
+    /// The least costs of all containers over a choice.
+    pub fn leasts(&self, load: &Load, sets: &[PositionSet]) -> i64 {
+        let mut sum: i64 = 0;
+        for (container, set) in load.containers.as_slice().iter().zip(sets) {
+            sum = sum.saturating_add(self.least(container.mass, *set));
+        }
+        sum
+    }
+}

@@ -1,0 +1,90 @@
+//! Paths from a container without a position to all that it may come to by turning others out.
+
+use arrayvec::ArrayVec;
+use position_set::PositionSet;
+use search_tables::{each_of, one};
+
+/// More than the length of any path.
+const FAR: i64 = i64::MAX;
+
+/// A container that was met, with the position that it has, and how long the path to it is.
+#[derive(Clone, Copy, Debug, Default)]
+pub struct Met {
+    pub rank: u8,
+    pub place: Option<u8>,
+    pub length: i64,
+}
+
+/// Paths, the shortest to each position, and how far they have grown.
+#[derive(Drop)]
+pub struct Growth {
+    /// The length of the shortest path to each position, and the rank of the last container on it.
+    least: [i64; 64],
+    before: [u8; 64],
+    /// The positions that are settled, and those that are met and not settled.
+    pub done: PositionSet,
+    front: PositionSet,
+    /// The containers in the order in which they were met.
+    pub met: ArrayVec<Met, 65>,
+    /// The length of the last path.
+    pub length: i64,
+}
+
+impl Growth {
+    pub fn new() -> Growth {
+        Growth {
+            least: [FAR; 64],
+            before: [0; 64],
+            done: PositionSet::empty(),
+            front: PositionSet::empty(),
+            met: ArrayVec::new(),
+            length: 0,
+        }
+    }
+
+    /// The rank of the last container on the path to a position.
+    pub fn before(&self, number: u8) -> u8 {
+        self.before[usize::from(number % 64)]
+    }
+
+    /// Notes a container that was met, at the length of the last path.
+    pub fn meet(&mut self, rank: u8, place: Option<u8>) {
+        let _ = self.met.try_push(Met {
+            rank,
+            place,
+            length: self.length,
+        });
+    }
+
+    /// Notes a path to a position by a container, where none is as short.
+    pub fn reach(&mut self, number: u8, rank: u8, length: i64) {
+        let place = usize::from(number % 64);
+        if length < self.least[place] {
+            self.least[place] = length;
+            self.before[place] = rank;
+            self.front = self.front.union(one(number));
+        }
+    }
+
+    /// The nearest position in front. None where there is none.
+    fn nearest(&self) -> Option<u8> {
+        let mut least = FAR;
+        let mut nearest = None;
+        for number in each_of(self.front) {
+            if self.least[usize::from(number)] < least {
+                least = self.least[usize::from(number)];
+                nearest = Some(number);
+            }
+        }
+        nearest
+    }
+
+    /// Settles the nearest position in front. None where there is none.
+    pub fn advance(&mut self) -> Option<u8> {
+        let number = self.nearest()?;
+        self.length = self.least[usize::from(number % 64)];
+        self.done = self.done.union(one(number));
+        self.front = self.front.difference(one(number));
+        Some(number)
+    }
+}

@@ -1,0 +1,223 @@
+//! The cheapest assignment of containers to different positions, by the Hungarian method.
+
+ghost use Rattle.std.specs.Prelude.{◌<◌};
+
+use crate::costs::Costs;
+use crate::growth::Growth;
+use arrayvec::ArrayVec;
+use position_set::PositionSet;
+use search_tables::{Load, each_of, set_at};
+
+/// Ranks of containers.
+pub type Ranks = ArrayVec<u8, 60>;
+
+/// What an assignment ends with.
+#[derive(Drop)]
+pub enum Assigned {
+    /// Each container has a position, by its rank; and what the positions are worth.
+    Whole {
+        places: [Option<u8>; 64],
+        worth: [i64; 64],
+    },
+    /// Containers that have fewer positions than they are.
+    Short {
+        ranks: Ranks,
+        places: PositionSet,
+    },
+}
+
+/// An assignment of some containers, with what makes it the cheapest.
+#[derive(Drop)]
+struct Matching<'a> {
+    load: &'a Load,
+    sets: &'a [PositionSet],
+    costs: &'a Costs,
+    /// What a container pays, by its rank.
+    paid: [i64; 64],
+    /// What a position is discounted.
+    discount: [i64; 64],
+    /// The container that has a position, and the position that a container has, by its rank.
+    owners: [Option<u8>; 64],
+    places: [Option<u8>; 64],
+}
+
+/// The place of a number, or of a rank, in a table.
+fn slot(number: u8) -> usize
+    ensures { result < 64 }
+{
+    usize::from(number % 64)
+}
+
+impl Matching<'_> {
+    fn mass(&self, rank: u8) -> i64 {
+        self.load.mass(usize::from(rank))
+    }
+
+    fn set(&self, rank: u8) -> PositionSet {
+        set_at(self.sets, usize::from(rank))
+    }
+
+    /// The cheapest position of a container, with what it costs.
+    fn cheapest(&self, rank: u8) -> Option<(u8, i64)> {
+        let mass = self.mass(rank);
+        let mut best = None;
+        let mut least = i64::MAX;
+        for number in each_of(self.set(rank)) {
+            let cost = self.costs.cost(mass, number);
+            if cost < least {
+                least = cost;
+                best = Some((number, cost));
+            }
+        }
+        best
+    }
+
+    /// Gives a position to a container.
+    fn give(&mut self, number: u8, rank: u8) {
+        self.owners[slot(number)] = Some(rank);
+        self.places[slot(rank)] = Some(number);
+    }
+
+    /// Gives each container its cheapest position where no earlier one has it. The ranks of those without one are left; or
+    /// the first that has no position at all.
+    fn begin(&mut self, ranks: &Ranks) -> Result<Ranks, u8> {
+        let mut left = Ranks::new();
+        for rank in ranks.as_slice() {
+            let Some((number, cost)) = self.cheapest(*rank) else {
+                return Err(*rank);
+            };
+            self.paid[slot(*rank)] = cost;
+            if self.owners[slot(number)].is_none() {
+                self.give(number, *rank);
+            } else {
+                let _ = left.try_push(*rank);
+            }
+        }
+        Ok(left)
+    }
+
+    /// Looks from a container on: it might go to any of its positions.
+    fn look_from(&self, growth: &mut Growth, rank: u8) {
+        let mass = self.mass(rank);
+        let shift = growth.length.saturating_sub(self.paid[slot(rank)]);
+        let ahead = self.set(rank).difference(growth.done);
+        for number in each_of(ahead) {
+            let cost = self.costs.cost(mass, number).saturating_add(shift);
+            let length = cost.saturating_sub(self.discount[usize::from(number)]);
+            growth.reach(number, rank, length);
+        }
+    }
+
+    /// Grows paths from a container until one comes to a position that nobody has. None where none does.
+    fn grow(&self, growth: &mut Growth, first: u8) -> Option<u8> {
+        let mut rank = first;
+        let mut place = None;
+        for _ in 0..=64 {
+            growth.meet(rank, place);
+            self.look_from(growth, rank);
+            let number = growth.advance()?;
+            match self.owners[slot(number)] {
+                Some(owner) => rank = owner,
+                None => return Some(number),
+            }
+            place = Some(number);
+        }
+        None
+    }
+
+    /// Makes each container that was met pay so much more, and each position of theirs cost so much less, that all paths
+    /// which are not shorter are as cheap.
+    fn settle(&mut self, growth: &Growth) {
+        for met in growth.met.as_slice() {
+            let gain = growth.length.saturating_sub(met.length);
+            let rank = slot(met.rank);
+            self.paid[rank] = self.paid[rank].saturating_add(gain);
+            if let Some(number) = met.place {
+                let place = slot(number);
+                self.discount[place] = self.discount[place].saturating_sub(gain);
+            }
+        }
+    }
+
+    /// Turns owners out along the path to a position.
+    fn turn_out(&mut self, growth: &Growth, last: u8) {
+        let mut number = last;
+        for _ in 0..=64 {
+            let rank = growth.before(number);
+            let left = self.places[slot(rank)];
+            self.give(number, rank);
+            match left {
+                Some(place) => number = place,
+                None => return,
+            }
+        }
+    }
+
+    /// Gives a container a position, and the others others. False where there are too few for those that were met.
+    fn add(&mut self, rank: u8, growth: &mut Growth) -> bool {
+        let Some(last) = self.grow(growth, rank) else {
+            return false;
+        };
+        self.settle(growth);
+        self.turn_out(growth, last);
+        true
+    }
+
+    /// What the positions are worth: their discounts below zero.
+    fn worth(&self) -> [i64; 64] {
+        let mut worth = [0; 64];
+        for place in 0..64 {
+            worth[place] = self.discount[place].saturating_neg();
+        }
+        worth
+    }
+}
+
+/// The containers that were met, where there are too few positions for them.
+fn short(growth: &Growth) -> Assigned {
+    let mut ranks = Ranks::new();
+    for met in growth.met.as_slice() {
+        let _ = ranks.try_push(met.rank);
+    }
+    Assigned::Short {
+        ranks,
+        places: growth.done,
+    }
+}
+
+/// A container that has no position at all.
+fn nowhere(rank: u8) -> Assigned {
+    let mut ranks = Ranks::new();
+    let _ = ranks.try_push(rank);
+    Assigned::Short {
+        ranks,
+        places: PositionSet::empty(),
+    }
+}
+
+/// Assigns the containers of these ranks to different positions of theirs, so that the costs are least together.
+pub fn assign(load: &Load, sets: &[PositionSet], costs: &Costs, ranks: &Ranks) -> Assigned {
+    let mut matching = Matching {
+        load,
+        sets,
+        costs,
+        paid: [0; 64],
+        discount: [0; 64],
+        owners: [None; 64],
+        places: [None; 64],
+    };
+    let left = match matching.begin(ranks) {
+        Ok(left) => left,
+        Err(rank) => return nowhere(rank),
+    };
+    for rank in left.as_slice() {
+        let mut growth = Growth::new();
+        if !matching.add(*rank, &mut growth) {
+            return short(&growth);
+        }
+    }
+    Assigned::Whole {
+        places: matching.places,
+        worth: matching.worth(),
+    }
+}

@@ -1,0 +1,12 @@
+pub mod WordForms
+pub mod PriceLemmas
+pub mod SetWords
+pub mod LineLemmas
+pub mod StartLemmas
+pub mod TreeGrammar
+pub mod TreeLines
+pub mod ReadLemmas
+pub mod SectionSteps
+pub mod ThreeRuns
+pub mod WriterSteps
+pub mod AnswerLemmas

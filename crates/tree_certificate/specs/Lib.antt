@@ -1,0 +1,4 @@
+pub mod Listed
+pub mod TreeText
+pub mod Refusals
+pub mod Reading

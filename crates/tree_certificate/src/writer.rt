@@ -1,0 +1,52 @@
+//! The writer of a certificate's text.
+
+ghost use Rattle.std.specs.Prelude.{◌≡◌, ℕ, List, ◌++◌, All, IfOk, OnOk};
+ghost use Rattle.text_lines.specs.Lines.{text_of};
+ghost use Rattle.tree_certificate.specs.Listed.{listed_trees};
+ghost use Rattle.tree_certificate.specs.TreeText.{tree_text, IsEarlier, IsSpelled, Spells};
+
+use crate::line_writers::{push_cliques, push_operations, push_price_lists, push_siblings};
+use crate::parts::{TreeCertificate, root_word};
+use certificate::push_claim;
+use desk_base::NoMemory;
+use hold_limits::Task;
+use std::alloc::Global;
+use telex::Builder;
+
+/// Appends the text of the certificate over the positions of the task's hold.
+pub fn push_trees(
+    out: &mut Builder,
+    task: &Task,
+    certificate: &TreeCertificate,
+) -> Result<(), NoMemory>
+    ensures { OnOk result (out.new ≡ out.old ++ tree_text task.now.hold.positions (listed_trees certificate.now)) }
+{
+    let hold = task.hold();
+    out.text(b"CERTIFICATE 3\n")?;
+    push_claim(out, hold, &certificate.claim)?;
+    push_cliques(out, hold, certificate.cliques.as_slice())?;
+    push_price_lists(out, hold, certificate.prices.as_slice())?;
+    out.text(root_word(&certificate.claim))?;
+    out.end_line()?;
+    push_operations(out, hold, certificate.root.as_slice())?;
+    push_siblings(out, hold, certificate.siblings.as_slice())?;
+    out.text(b"END\n")?;
+    Ok(())
+}
+
+/// Writes the one text of the certificate over the positions of the task's hold. Where each part of it can be spelled it is
+/// read back, also behind any lines that are not `CERTIFICATE 3`.
+pub fn write_trees(
+    alloc: Global,
+    task: &Task,
+    certificate: &TreeCertificate,
+) -> Result<Vec<u8>, NoMemory>
+    ensures written { IfOk result (λ text. text.items ≡ tree_text task.now.hold.positions (listed_trees certificate.now)) }
+    ensures read_back { IsSpelled task.now.hold.positions (listed_trees certificate.now)
+        → IfOk result (λ text. (before : List (List ℕ)) → All IsEarlier before
+        → Spells task.now.hold.positions (text_of before ++ text.items) (listed_trees certificate.now)) }
+{
+    let mut out = Builder::new(alloc);
+    push_trees(&mut out, task, certificate)?;
+    Ok(out.finish())
+}

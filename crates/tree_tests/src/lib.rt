@@ -1,0 +1,14 @@
+//! Tests of the crates of trees: what the search looks up, prices, moves of containers, texts of certificates.
+//! They stand apart, since a crate with tests is proved twice.
+#![tactic(auto)]
+
+#[cfg(test)]
+mod near_paths_tests;
+#[cfg(test)]
+mod raised_prices_tests;
+#[cfg(test)]
+mod search_tables_tests;
+#[cfg(test)]
+mod small_load;
+#[cfg(test)]
+mod texts;
