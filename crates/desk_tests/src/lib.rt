@@ -1,4 +1,4 @@
-//! Tests of the desk's crates: what the history of an office says, offices, routes, bodies, requests and answers.
+//! Tests of the desk's crates: what the history of an office says, routes, bodies, requests and answers.
 //! They stand apart, since a crate with tests is proved twice.
 #![tactic(auto)]
 
@@ -8,8 +8,6 @@ mod answers;
 mod bodies;
 #[cfg(test)]
 mod histories;
-#[cfg(test)]
-mod offices;
 #[cfg(test)]
 mod requests;
 #[cfg(test)]

@@ -104,11 +104,15 @@ limits 73500 66000
 END
 ";
 
+fn aircraft(alloc: Global) -> Result<Aircraft, NoMemory> {
+    read_aircraft(alloc, DAIAB.as_bytes()).map_err(|_| NoMemory)
+}
+
 fn fleet(alloc: Global) -> Result<Vec<Aircraft>, NoMemory>
     ensures { IfOk result (λ fleet. AreApart fleet.items) }
 {
     let mut fleet = Vec::new(alloc);
-    fleet.push(read_aircraft(alloc, DAIAB.as_bytes()).map_err(|_| NoMemory)?)?;
+    fleet.push(aircraft(alloc)?)?;
     Ok(fleet)
 }
 
@@ -166,8 +170,45 @@ fn plan_of(alloc: Global, task: Task) -> Result<Proven, NoMemory> {
     Proven::new(task, certificate).map_err(|_| NoMemory)
 }
 
+/// What a reply says, as far as it is looked at here.
+#[derive(Clone, Copy, Debug, PartialEq, Eq)]
+enum Said {
+    Opened,
+    Edition(u32),
+    SheetOf(u32),
+    Exists,
+    Gone,
+    Stale(u32),
+    Ahead(u32),
+    OtherTask,
+    KeeperFault,
+    Other,
+}
+
+fn refused_by(refusal: &Refusal) -> Said {
+    match refusal {
+        Refusal::Exists => Said::Exists,
+        Refusal::Gone => Said::Gone,
+        Refusal::Stale(edition) => Said::Stale(*edition),
+        Refusal::Ahead(edition) => Said::Ahead(*edition),
+        Refusal::OtherTask => Said::OtherTask,
+        Refusal::KeeperFault => Said::KeeperFault,
+        _ => Said::Other,
+    }
+}
+
+fn said_by(reply: Reply) -> Said {
+    match &reply {
+        Reply::Opened(key) if key.bytes() == b"XX210-12".as_slice() => Said::Opened,
+        Reply::Edition(edition) => Said::Edition(*edition),
+        Reply::Sheet(sheet) => Said::SheetOf(sheet.edition),
+        Reply::Refused(refusal) => refused_by(refusal),
+        _ => Said::Other,
+    }
+}
+
 /// The reply to a request, where an entry is spare.
-fn ask<K: Keeper>(
+fn reply_to<K: Keeper>(
     alloc: Global,
     office: &mut Office,
     keeper: &mut K,
@@ -181,13 +222,25 @@ fn ask<K: Keeper>(
     Ok(office.turn(alloc, keeper, 1, request))
 }
 
+/// What the reply to a request says, where an entry is spare.
+fn ask<K: Keeper>(
+    alloc: Global,
+    office: &mut Office,
+    keeper: &mut K,
+    request: Request,
+) -> Result<Said, NoMemory>
+    requires { IsWithinLimits request }
+{
+    Ok(said_by(reply_to(alloc, office, keeper, request)?))
+}
+
 fn set<K: Keeper>(
     alloc: Global,
     office: &mut Office,
     keeper: &mut K,
     edition: u32,
     part: FigurePart,
-) -> Result<Reply, NoMemory>
+) -> Result<Said, NoMemory>
     requires { IsPartWithin part }
 {
     let key = key()?;
@@ -222,7 +275,7 @@ fn taken<K: Keeper>(
     edition: u32,
 ) -> Result<Task, NoMemory> {
     let key = key()?;
-    match ask(alloc, office, keeper, Request::Take { key, edition })? {
+    match reply_to(alloc, office, keeper, Request::Take { key, edition })? {
         Reply::Task(task) => Ok(task),
         _ => Err(NoMemory),
     }
@@ -246,10 +299,19 @@ fn row<K: Keeper>(alloc: Global, office: &mut Office, keeper: &mut K) -> Result<
         key: key()?,
         what: What::State,
     };
-    match ask(alloc, office, keeper, show)? {
+    match reply_to(alloc, office, keeper, show)? {
         Reply::Row(row) => Ok(row),
         _ => Err(NoMemory),
     }
+}
+
+/// Whether the row of the flight is that of its opening.
+fn is_as_opened<K: Keeper>(
+    alloc: Global,
+    office: &mut Office,
+    keeper: &mut K,
+) -> Result<bool, NoMemory> {
+    Ok(row(alloc, office, keeper)?.as_slice() == OPENED.as_bytes())
 }
 
 fn release(edition: u32) -> Result<Request, NoMemory>
@@ -282,11 +344,15 @@ fn a_flight_is_opened_once(rt: HostRuntime) -> Result<(), Fail> {
     let alloc = rt.alloc();
     let mut keeper = MemoryKeeper::new(alloc);
     let mut office = Office::start(alloc, fleet(alloc)?, 3, &mut keeper)?;
-    let reply = ask(alloc, &mut office, &mut keeper, new_request()?)?;
-    assert!(rt; matches!(&reply, Reply::Opened(key) if key.bytes() == b"XX210-12".as_slice()));
-    let again = ask(alloc, &mut office, &mut keeper, new_request()?)?;
-    assert!(rt; matches!(&again, Reply::Refused(Refusal::Exists)));
-    assert!(rt; row(alloc, &mut office, &mut keeper)?.as_slice() == OPENED.as_bytes());
+    assert_eq!(rt;
+        ask(alloc, &mut office, &mut keeper, new_request()?)?,
+        Said::Opened
+    );
+    assert_eq!(rt;
+        ask(alloc, &mut office, &mut keeper, new_request()?)?,
+        Said::Exists
+    );
+    assert!(rt; is_as_opened(alloc, &mut office, &mut keeper)?);
     assert_eq!(rt; office.spare(), 0);
     let (opening, history) = office.parts();
     assert!(rt; opening.is_empty() && history.len() == 3);
@@ -298,18 +364,26 @@ fn a_flight_is_released_and_departs(rt: HostRuntime) -> Result<(), Fail> {
     let alloc = rt.alloc();
     let mut keeper = MemoryKeeper::new(alloc);
     let mut office = planned(alloc, &mut keeper)?;
-    let reply = ask(alloc, &mut office, &mut keeper, release(2)?)?;
-    assert!(rt; matches!(&reply, Reply::Sheet(sheet) if sheet.edition == 2));
-    let reply = ask(alloc, &mut office, &mut keeper, late(2)?)?;
-    assert!(rt; matches!(&reply, Reply::Edition(3)));
+    assert_eq!(rt;
+        ask(alloc, &mut office, &mut keeper, release(2)?)?,
+        Said::SheetOf(2)
+    );
+    assert_eq!(rt;
+        ask(alloc, &mut office, &mut keeper, late(2)?)?,
+        Said::Edition(3)
+    );
     let depart = Request::Depart {
         key: key()?,
         edition: 3,
     };
-    let reply = ask(alloc, &mut office, &mut keeper, depart)?;
-    assert!(rt; matches!(&reply, Reply::Edition(3)));
-    let reply = ask(alloc, &mut office, &mut keeper, release(3)?)?;
-    assert!(rt; matches!(&reply, Reply::Refused(Refusal::Gone)));
+    assert_eq!(rt;
+        ask(alloc, &mut office, &mut keeper, depart)?,
+        Said::Edition(3)
+    );
+    assert_eq!(rt;
+        ask(alloc, &mut office, &mut keeper, release(3)?)?,
+        Said::Gone
+    );
     Ok(())
 }
 
@@ -327,17 +401,23 @@ fn a_plan_for_other_figures_is_refused(rt: HostRuntime) -> Result<(), Fail> {
         edition: 2,
         plan,
     };
-    let reply = ask(alloc, &mut office, &mut keeper, stale)?;
-    assert!(rt; matches!(&reply, Reply::Refused(Refusal::Stale(4))));
+    assert_eq!(rt;
+        ask(alloc, &mut office, &mut keeper, stale)?,
+        Said::Stale(4)
+    );
     let other = Request::Install {
         key: key()?,
         edition: 4,
         plan: plan_of(alloc, task)?,
     };
-    let reply = ask(alloc, &mut office, &mut keeper, other)?;
-    assert!(rt; matches!(&reply, Reply::Refused(Refusal::OtherTask)));
-    let reply = ask(alloc, &mut office, &mut keeper, release(5)?)?;
-    assert!(rt; matches!(&reply, Reply::Refused(Refusal::Ahead(4))));
+    assert_eq!(rt;
+        ask(alloc, &mut office, &mut keeper, other)?,
+        Said::OtherTask
+    );
+    assert_eq!(rt;
+        ask(alloc, &mut office, &mut keeper, release(5)?)?,
+        Said::Ahead(4)
+    );
     Ok(())
 }
 
@@ -348,11 +428,15 @@ fn a_commit_that_fails_changes_nothing(rt: HostRuntime) -> Result<(), Fail> {
     commits.push(2)?;
     let mut keeper = FailingKeeper::new(alloc, Vec::new(alloc), commits);
     let mut office = open(alloc, &mut keeper)?;
-    let reply = set(alloc, &mut office, &mut keeper, 1, fuel())?;
-    assert!(rt; matches!(&reply, Reply::Refused(Refusal::KeeperFault)));
-    assert!(rt; row(alloc, &mut office, &mut keeper)?.as_slice() == OPENED.as_bytes());
-    let reply = set(alloc, &mut office, &mut keeper, 1, fuel())?;
-    assert!(rt; matches!(&reply, Reply::Edition(2)));
+    assert_eq!(rt;
+        set(alloc, &mut office, &mut keeper, 1, fuel())?,
+        Said::KeeperFault
+    );
+    assert!(rt; is_as_opened(alloc, &mut office, &mut keeper)?);
+    assert_eq!(rt;
+        set(alloc, &mut office, &mut keeper, 1, fuel())?,
+        Said::Edition(2)
+    );
     let outcomes: [Outcome; 4] = [
         Outcome::Done,
         Outcome::KeeperFailed,
@@ -400,8 +484,7 @@ fn the_standing_is_that_of_the_history(rt: HostRuntime) -> Result<(), Fail> {
     let mut office = planned(alloc, &mut keeper)?;
     let _ = ask(alloc, &mut office, &mut keeper, release(2)?)?;
     let _ = ask(alloc, &mut office, &mut keeper, late(2)?)?;
-    let aircraft = read_aircraft(alloc, DAIAB.as_bytes())?;
-    let opened = new_flight(alloc, &aircraft, leg(b"DAIAB")?);
+    let opened = new_flight(alloc, &aircraft(alloc)?, leg(b"DAIAB")?);
     let Some(standing) = standing_after(alloc, &opened, office.history())? else {
         return Err(Fail::new("the numbers are within their types"));
     };

@@ -1,0 +1,219 @@
+//! Rounds of requests about one flight.
+
+ghost use Rattle.editions.specs.Acts.{IsPartWithin};
+
+use crate::desk::{Desk, key};
+use cert_checker::Proven;
+use certificate::{Certificate, Claim, Cuts};
+use desk_base::NoMemory;
+use editions::{FigurePart, Reply, Request, What};
+use flight_state::Lmc;
+use hold_limits::{Path, Task};
+use mass_units::Kg;
+use std::alloc::Global;
+use trim::Fuel;
+
+/// A request about a flight. A round of a kind ends with it, and has before it what it needs: a plan needs its task, what is
+/// released a plan, and the others a release. Each of these rounds begins with other figures.
+#[derive(Clone, Copy, PartialEq, Eq)]
+pub enum Kind {
+    Show,
+    Set,
+    Take,
+    Install,
+    Release,
+    Late,
+    Reopen,
+    Depart,
+}
+
+impl Kind {
+    /// The kind with this name.
+    pub fn read(name: &str) -> Option<Kind> {
+        match name {
+            "show" => Some(Kind::Show),
+            "set" => Some(Kind::Set),
+            "take" => Some(Kind::Take),
+            "install" => Some(Kind::Install),
+            "release" => Some(Kind::Release),
+            "late" => Some(Kind::Late),
+            "reopen" => Some(Kind::Reopen),
+            "depart" => Some(Kind::Depart),
+            _ => None,
+        }
+    }
+
+    /// The requests of a round.
+    fn round(self) -> &'static [Kind] {
+        match self {
+            Kind::Show => &[Kind::Show],
+            Kind::Set => &[Kind::Set],
+            Kind::Take => &[Kind::Set, Kind::Take],
+            Kind::Install => &[Kind::Set, Kind::Take, Kind::Install],
+            Kind::Release => &[Kind::Set, Kind::Take, Kind::Install, Kind::Release],
+            Kind::Late => &[
+                Kind::Set,
+                Kind::Take,
+                Kind::Install,
+                Kind::Release,
+                Kind::Late,
+            ],
+            Kind::Reopen => &[
+                Kind::Set,
+                Kind::Take,
+                Kind::Install,
+                Kind::Release,
+                Kind::Reopen,
+            ],
+            Kind::Depart => &[
+                Kind::Set,
+                Kind::Take,
+                Kind::Install,
+                Kind::Release,
+                Kind::Depart,
+            ],
+        }
+    }
+}
+
+/// A flight as the desk knows it: its number, its edition, and the task that was last taken.
+#[derive(Drop)]
+struct Flight {
+    number: u32,
+    edition: u32,
+    task: Option<Task>,
+}
+
+impl Flight {
+    fn new(number: u32) -> Flight {
+        Flight {
+            number,
+            edition: 1,
+            task: None,
+        }
+    }
+
+    /// Whether the reply has an edition, which is the flight's from now on.
+    fn goes_on(&mut self, reply: Reply) -> bool {
+        let Reply::Edition(edition) = reply else {
+            return false;
+        };
+        self.edition = edition;
+        true
+    }
+
+    /// Whether the reply has a task, which is kept.
+    fn takes(&mut self, reply: Reply) -> bool {
+        let Reply::Task(task) = reply else {
+            return false;
+        };
+        self.task = Some(task);
+        true
+    }
+
+    /// The plan of the task that was taken. It is of no containers.
+    fn plan(&mut self, alloc: Global) -> Result<Proven, NoMemory> {
+        let task = self.task.take().ok_or(NoMemory)?;
+        let certificate = Certificate {
+            claim: Claim::Best(Path::new()),
+            cuts: Cuts::from(Vec::new(alloc)),
+            expanded: 0,
+        };
+        Proven::new(task, certificate).map_err(|_| NoMemory)
+    }
+}
+
+/// Fuel for the worked leg.
+fn fuel() -> FigurePart
+    ensures { IsPartWithin result }
+{
+    FigurePart::Fuel(Fuel {
+        taxi: Kg(200),
+        take_off: Kg(9_000),
+        trip: Kg(6_000),
+    })
+}
+
+/// One adult more in the second zone.
+fn one_more() -> Lmc {
+    Lmc::Cabin {
+        zone: 2,
+        adults: 1,
+        children: 0,
+        infants: 0,
+    }
+}
+
+/// Makes the request, and returns whether it was accepted.
+fn is_accepted(
+    alloc: Global,
+    desk: &mut Desk,
+    flight: &mut Flight,
+    kind: Kind,
+) -> Result<bool, NoMemory> {
+    let key = key(alloc, flight.number)?;
+    let edition = flight.edition;
+    Ok(match kind {
+        Kind::Show => {
+            let what = What::State;
+            matches!(desk.ask(alloc, Request::Show { key, what })?, Reply::Row(_))
+        }
+        Kind::Set => {
+            let part = fuel();
+            flight.goes_on(desk.ask(alloc, Request::Set { key, edition, part })?)
+        }
+        Kind::Take => flight.takes(desk.ask(alloc, Request::Take { key, edition })?),
+        Kind::Install => {
+            let plan = flight.plan(alloc)?;
+            flight.goes_on(desk.ask(alloc, Request::Install { key, edition, plan })?)
+        }
+        Kind::Release => {
+            matches!(
+                desk.ask(alloc, Request::Release { key, edition })?,
+                Reply::Sheet(_)
+            )
+        }
+        Kind::Late => {
+            let lmc = one_more();
+            flight.goes_on(desk.ask(alloc, Request::Late { key, edition, lmc })?)
+        }
+        Kind::Reopen => flight.goes_on(desk.ask(alloc, Request::Reopen { key, edition })?),
+        Kind::Depart => flight.goes_on(desk.ask(alloc, Request::Depart { key, edition })?),
+    })
+}
+
+/// Whether each request of a round was accepted.
+fn is_made(
+    alloc: Global,
+    desk: &mut Desk,
+    flight: &mut Flight,
+    kind: Kind,
+) -> Result<bool, NoMemory> {
+    for step in kind.round() {
+        if !is_accepted(alloc, desk, flight, *step)? {
+            return Ok(false);
+        }
+    }
+    Ok(true)
+}
+
+/// Makes so many rounds, and returns how many of them were accepted. Each departure is that of a flight of its own; the other rounds
+/// are all about the first flight.
+pub fn good_rounds(
+    alloc: Global,
+    desk: &mut Desk,
+    kind: Kind,
+    rounds: u32,
+) -> Result<u32, NoMemory> {
+    let mut good: u32 = 0;
+    let mut flight = Flight::new(1);
+    for round in 0..rounds {
+        if kind == Kind::Depart {
+            flight = Flight::new(round.saturating_add(1));
+        }
+        if is_made(alloc, desk, &mut flight, kind)? {
+            good = good.saturating_add(1);
+        }
+    }
+    Ok(good)
+}
