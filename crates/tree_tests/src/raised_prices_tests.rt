@@ -20,7 +20,7 @@ fn free(alloc: Global, load: &Load, end: End) -> Result<Held, Fail> {
 fn costs_are_a_rate_and_a_fee(rt: HostRuntime) -> Result<(), Fail> {
     let load = load(&[1000, 800]);
     let mut costs = Costs::free(&load, End::Low);
-    costs.add_limit(&load.limits[0], 100);
+    costs.add_limit(load.limits.as_slice().first().ok_or("a limit")?, 100);
     costs.charge(pair(2, 3), 5);
     for (number, cost) in [(0, -500_000), (1, -300_000), (2, 300_005), (3, 500_005)] {
         assert_eq!(rt; costs.cost(1000, number), cost, "at {number}");
@@ -47,7 +47,8 @@ fn no_prices_count_the_positions_alone(rt: HostRuntime) -> Result<(), Fail> {
     assert_eq!(rt; high.value(&load, &sets), -1_080_007);
     assert!(rt; !low.passes(&load, &sets, load.window));
     let trimmed = low.trimmed(&load, &sets, load.ticks_within(0));
-    assert!(rt; trimmed[0] == pair(0, 1).union(one(2)) && trimmed[1] == four());
+    let left = [pair(0, 1).union(one(2)), four()];
+    assert!(rt; trimmed.as_slice() == left.as_slice());
     Ok(())
 }
 

@@ -20,11 +20,11 @@ fn numbers_of_a_set_come_in_rising_order(rt: HostRuntime) -> Result<(), Fail> {
 #[test]
 fn a_path_comes_to_its_index_and_loads(rt: HostRuntime) -> Result<(), Fail> {
     let load = load(&[1000, 800]);
-    let limit = load.limits[0];
+    let limit = load.limits.as_slice().first().ok_or("a limit")?;
     assert_eq!(rt; index_of(&load, &[0, 3]), -119_993);
-    assert_eq!(rt; load_of(&load, &limit, &[0, 3]), 200);
-    assert_eq!(rt; load_of(&load, &limit, &[1, 0]), 1_800);
-    assert_eq!(rt; load_of(&load, &limit, &[3, 9]), -1_000);
+    assert_eq!(rt; load_of(&load, limit, &[0, 3]), 200);
+    assert_eq!(rt; load_of(&load, limit, &[1, 0]), 1_800);
+    assert_eq!(rt; load_of(&load, limit, &[3, 9]), -1_000);
     assert!(rt; used_by(&[3, 0]) == pair(0, 3));
     assert_eq!(rt; load.mean_mass(), 900);
     assert_eq!(rt; crate::small_load::load(&[]).mean_mass(), 1);
