@@ -142,7 +142,7 @@ fn the_target_and_the_body_tell_the_parts(rt: HostRuntime) -> Result<(), Fail> {
     let first = b"XX210-12".as_slice();
     assert!(rt;
         matches!(
-            plan,
+            &plan,
             Asked::Plan {
                 key,
                 edition: 7,
@@ -160,7 +160,7 @@ fn the_target_and_the_body_tell_the_parts(rt: HostRuntime) -> Result<(), Fail> {
     let second = b"YY7A-31".as_slice();
     assert!(rt;
         matches!(
-            release,
+            &release,
             Asked::Entry(Request::Release {
                 key,
                 edition: 4_294_967_295
