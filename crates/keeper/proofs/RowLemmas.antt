@@ -1,16 +1,16 @@
 -- a row put at its place among rows in the order of their keys
-use Rattle.std.proofs.Common.{◌≡◌, ℕ, suc, ◌+◌, ◌<◌, ◌≤◌, Bool, true, false, cond, List, [], ◌∷◌, ◌++◌, length, take, drop, set, get_or, refl, sym, ◌∙◌, ap, ap₂, arith, All, Option, Some, Ordering, Less, Equal, Greater, nat_cmp}
+use Rattle.std.proofs.Common.{◌≡◌, ℕ, zero, suc, ◌+◌, ◌<◌, ◌≤◌, Bool, true, false, cond, nat_eq, eqb-true, List, [], ◌∷◌, ◌++◌, length, take, drop, set, get_or, refl, sym, ◌∙◌, ap, ap₂, arith, All, Option, Some, Result, Ok, Err, Ordering, Less, Equal, Greater, nat_cmp}
 use Rattle.std.specs.Prelude.{option_map, if◌then◌else◌, find, bytes_eq}
 use Rattle.std.specs.Cmp.Lexicographic.{slice_cmp}
-use Rattle.std.specs.Ordering.{ordering_reverse, ordering_then}
+use Rattle.std.specs.Ordering.{ordering_reverse, ordering_then, ordering_index}
+use Rattle.std.specs.List.Sorted.{IsSearchInRange, IsBinarySearchResult, IsNonDecreasingBy}
 use Rattle.std.proofs.lemmas.Bool.Decides.{nat_tests}
-use Rattle.std.proofs.lemmas.Cmp.{nat_list_cmp_total, tied_itself}
-use Rattle.std.proofs.lemmas.List.{append_assoc, take_more, take_all, drop_all, drop_more, set_split}
-use Rattle.std.proofs.lemmas.List.Elements.{All-nil, All-cons, All-head, All-tail, All-weaker}
+use Rattle.std.proofs.lemmas.Cmp.{nat_list_cmp_total, tied_itself, alike_right}
+use Rattle.std.proofs.lemmas.List.Elements.{All-nil, All-cons, All-head, All-tail, All-weaker, All-get_or}
 use Rattle.std.proofs.lemmas.List.Kept.{AllPairs-cons}
 use Rattle.desk_base.proofs.PairLemmas.{AllPairs-head, AllPairs-tail}
 use Rattle.keeper.specs.declared.row.KeptRow.{KeptRow}
-use Rattle.keeper.specs.Rows.{put_by, with_row}
+use Rattle.keeper.specs.Rows.{put_by, with_row, key_order, IsPlaceOf}
 use Rattle.keeper.specs.Tables.{IsBefore, AreInKeyOrder, bytes_under}
 use Rattle.std.proofs.lemmas.Slice.Eq.{bytes_eq-Decides}
 
@@ -127,45 +127,63 @@ pub under-put_copy : (row copy : KeptRow) (rows before after : List KeptRow) →
 under-put_copy row copy rows before after put copied viewed key =
     ap (λ (kept : List KeptRow). bytes_under kept key) (put ∙ ap₂ with_row copied viewed) ∙ under-with_row row before key
 
--- Lists -----------------------------------------------------------------------------------------
-
-set-split : {X : Type 0} (xs : List X) (i : ℕ) (y : X) → i < length xs → set xs i y ≡ take i xs ++ y ∷ drop (i + 1) xs
-set-split xs i y within = let next : suc i ≡ i + 1 = omega arith in set_split xs i y within ∙ ap (λ n. take i xs ++ y ∷ drop n xs) next
-
--- The walk --------------------------------------------------------------------------------------
-
--- the rows up to a place, and then the others with the row put among them
-abbrev pub Walked : KeptRow → List KeptRow → ℕ → Type 0
-Walked row rows at = with_row row rows ≡ take at rows ++ with_row row (drop at rows)
-
--- what a comparison of two keys says of the rows
-pub order_at : (row kept : KeptRow) (rows : List KeptRow) (at : ℕ) (one other : List ℕ) (o : Ordering) → kept ≡ get_or rows at kept → one ≡ row.key → other ≡ kept.key → o ≡ slice_cmp nat_cmp one other → order_of row (get_or rows at kept) ≡ o
-order_at row kept rows at one other o is key kept_key compared =
-    ap (order_of row) (sym is) ∙ ap (slice_cmp nat_cmp row.key) (sym kept_key) ∙ ap (λ k. slice_cmp nat_cmp k other) (sym key) ∙ sym compared
+-- Places ----------------------------------------------------------------------------------------
 
 put-here : (row kept : KeptRow) (rows : List KeptRow) (o : Ordering) → order_of row kept ≡ o → with_row row (kept ∷ rows) ≡ put_by o row kept rows (with_row row rows)
 put-here row kept rows o is = ap (λ p. put_by p row kept rows (with_row row rows)) is
 
-pub walked-start : (row : KeptRow) (rows : List KeptRow) → Walked row rows 0
-walked-start row rows = refl
+-- seen from the row that is put
+seen-from : (row kept : KeptRow) (o : Ordering) → key_order row.key kept ≡ o → order_of row kept ≡ ordering_reverse o
+seen-from row kept o is = nat_list_cmp_total.antisymm row.key kept.key ∙ ap ordering_reverse is
 
-pub walked-less : (row : KeptRow) (rows : List KeptRow) (at : ℕ) (d : KeptRow) → at < length rows → Walked row rows at → order_of row (get_or rows at d) ≡ Less → take at rows ++ row ∷ drop at rows ≡ with_row row rows
-walked-less row rows at d within walked is =
-    let here : drop at rows ≡ get_or rows at d ∷ drop (at + 1) rows = drop_more rows at d within in
-    sym (walked ∙ ap (λ t. take at rows ++ t) (ap (with_row row) here ∙ put-here row (get_or rows at d) (drop (at + 1) rows) Less is ∙ ap (λ t. row ∷ t) (sym here)))
+-- a kept row before the one under the key is before the row that is put
+before-found : (row kept found : KeptRow) → IsBefore kept found → key_order row.key found ≡ Equal → key_order row.key kept ≡ Less
+before-found row kept found before tied = sym (alike_right nat_list_cmp_total found.key row.key kept.key tied) ∙ before
 
-pub walked-equal : (row : KeptRow) (rows : List KeptRow) (at : ℕ) (d : KeptRow) → at < length rows → Walked row rows at → order_of row (get_or rows at d) ≡ Equal → set rows at row ≡ with_row row rows
-walked-equal row rows at d within walked is =
-    let here : drop at rows ≡ get_or rows at d ∷ drop (at + 1) rows = drop_more rows at d within in
-    set-split rows at row within ∙ sym (walked ∙ ap (λ t. take at rows ++ t) (ap (with_row row) here ∙ put-here row (get_or rows at d) (drop (at + 1) rows) Equal is))
+pub put-found : (row : KeptRow) (rows : List KeptRow) (at : ℕ) → AreInKeyOrder rows → IsPlaceOf row.key rows (Ok at) → set rows at row ≡ with_row row rows
+put-found row [] at rising place = absurd (omega (arith, place.within))
+put-found row (kept ∷ rows) zero rising place = sym (put-here row kept rows Equal (seen-from row kept Equal (place.is kept)))
+put-found row (kept ∷ rows) (suc at) rising place =
+    let within : at < length rows = omega (arith, place.within) in
+    let after = All-get_or (IsBefore kept) rows at kept within (AllPairs-head IsBefore kept rows rising) in
+    let greater = seen-from row kept Less (before-found row kept (get_or rows at kept) after (place.is kept)) in
+    let rest : IsPlaceOf row.key rows (Ok at) = record { within = within; is = place.is } in
+    ap (λ t. kept ∷ t) (put-found row rows at (AllPairs-tail IsBefore kept rows rising) rest) ∙ sym (put-here row kept rows Greater greater)
 
-pub walked-greater : (row : KeptRow) (rows : List KeptRow) (at : ℕ) (d : KeptRow) → at < length rows → Walked row rows at → order_of row (get_or rows at d) ≡ Greater → Walked row rows (at + 1)
-walked-greater row rows at d within walked is =
-    let here : drop at rows ≡ get_or rows at d ∷ drop (at + 1) rows = drop_more rows at d within in
-    walked ∙ ap (λ t. take at rows ++ t) (ap (with_row row) here ∙ put-here row (get_or rows at d) (drop (at + 1) rows) Greater is)
-    ∙ sym (append_assoc (take at rows) (get_or rows at d ∷ []) (with_row row (drop (at + 1) rows)))
-    ∙ ap (λ t. t ++ with_row row (drop (at + 1) rows)) (sym (take_more rows at d within))
+pub put-new : (row : KeptRow) (rows : List KeptRow) (at : ℕ) → IsPlaceOf row.key rows (Err at) → take at rows ++ row ∷ drop at rows ≡ with_row row rows
+put-new row [] zero place = refl
+put-new row [] (suc at) place = absurd (omega (arith, place.within))
+put-new row (kept ∷ rows) zero place =
+    sym (put-here row kept rows Less (seen-from row kept Greater (place.is.1 0 kept (omega arith) (omega arith))))
+put-new row (kept ∷ rows) (suc at) place =
+    let greater = seen-from row kept Less (place.is.0 0 kept (omega arith) (omega arith)) in
+    let rest : IsPlaceOf row.key rows (Err at) = record {
+      within = omega (arith, place.within);
+      is = (λ k d low high. place.is.0 (suc k) d (omega arith) (omega arith), λ k d low high. place.is.1 (suc k) d (omega arith) (omega arith));
+    } in
+    ap (λ t. kept ∷ t) (put-new row rows at rest) ∙ sym (put-here row kept rows Greater greater)
 
-pub walked-end : (row : KeptRow) (rows : List KeptRow) (at : ℕ) → length rows ≤ at → Walked row rows at → rows ++ row ∷ [] ≡ with_row row rows
-walked-end row rows at past walked =
-    sym (walked ∙ ap (λ t. take at rows ++ with_row row t) (drop_all at rows past) ∙ ap (λ t. t ++ row ∷ []) (take_all at rows past))
+-- among rows in key order the comparisons with a key rise
+order-rises : (key : List ℕ) (one other : KeptRow) → IsBefore one other → ordering_index (key_order key one) ≤ ordering_index (key_order key other)
+order-rises key one other before = by-later (key_order key one) (key_order key other) refl refl where
+  by-later : (o p : Ordering) → key_order key one ≡ o → key_order key other ≡ p → ordering_index o ≤ ordering_index p
+  by-later Less p is after = omega arith
+  by-later Equal Less is after = absurd (cc (is, nat_list_cmp_total.trans one.key other.key key before after))
+  by-later Equal Equal is after = omega arith
+  by-later Equal Greater is after = omega arith
+  by-later Greater Less is after = absurd (cc (is, nat_list_cmp_total.trans one.key other.key key before after))
+  by-later Greater Equal is after = absurd (cc (is, before-found (record one { key = key }) one other before after))
+  by-later Greater Greater is after = omega arith
+
+orders-rise : (key : List ℕ) (rows : List KeptRow) → AreInKeyOrder rows → IsNonDecreasingBy (λ kept. ordering_index (key_order key kept)) rows
+orders-rise key rows rising i j d le lt = by-place (nat_eq i j) refl where
+  same-index : i ≡ j → ordering_index (key_order key (get_or rows i d)) ≤ ordering_index (key_order key (get_or rows j d))
+  same-index same = omega (arith, ap (λ k. ordering_index (key_order key (get_or rows k d))) same)
+
+  by-place : (b : Bool) → nat_eq i j ≡ b → ordering_index (key_order key (get_or rows i d)) ≤ ordering_index (key_order key (get_or rows j d))
+  by-place true same = same-index (eqb-true i j same)
+  by-place false other = order-rises key (get_or rows i d) (get_or rows j d) (rising i j d (grind (arith, nat_tests)) lt)
+
+pub place-found : (key : List ℕ) (rows : List KeptRow) (place : Result ℕ ℕ) → AreInKeyOrder rows → IsSearchInRange place (length rows) → IsBinarySearchResult (key_order key) rows place → IsPlaceOf key rows place
+place-found key rows (Ok at) rising within is = record { within = within; is = is }
+place-found key rows (Err at) rising within is = record { within = within; is = is (orders-rise key rows rising) }

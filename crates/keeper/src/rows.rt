@@ -1,13 +1,12 @@
 //! Rows in memory, in the order of their keys.
 
 ghost use Rattle.std.specs.Prelude.{◌≡◌, [], IfOk, OnOk, OnErr};
-ghost use Rattle.keeper.specs.Rows.{with_row};
+ghost use Rattle.keeper.specs.Rows.{with_row, IsPlaceOf};
 ghost use Rattle.keeper.specs.Tables.{AreInKeyOrder};
 
 use crate::row::KeptRow;
 use desk_base::NoMemory;
 use std::alloc::Global;
-use std::cmp::Ordering;
 use std::marker::Model;
 
 /// Rows, one under each key, in the order of their keys.
@@ -55,28 +54,20 @@ impl Rows {
         ensures put { OnOk result (self.new ≡ with_row row self.old) }
         ensures same { OnErr result (self.new ≡ self.old) }
     {
-        put_into(&mut self.list, row)
-    }
-}
-
-/// Adds the row at its place, or replaces the one under its key.
-fn put_into(rows: &mut Vec<KeptRow>, row: KeptRow) -> Result<(), NoMemory>
-    ensures put { OnOk result (rows.new.items ≡ with_row row rows.old.items) }
-    ensures same { OnErr result (rows.new.items ≡ rows.old.items) }
-{
-    for at in 0..rows.len() {
-        match row.key.as_slice().cmp(rows[at].key.as_slice()) {
-            Ordering::Less => {
-                rows.insert(at, row)?;
-                return Ok(());
-            }
-            Ordering::Equal => {
-                rows[at] = row;
-                return Ok(());
-            }
-            Ordering::Greater => {}
+        match self.place_of(row.key.as_slice()) {
+            Ok(at) => self.list[at] = row,
+            Err(at) => self.list.insert(at, row)?,
         }
+        Ok(())
     }
-    rows.push(row)?;
-    Ok(())
+
+    /// The place of the row under the key, or else the place where one would stand.
+    fn place_of(&self, key: &[u8]) -> Result<usize, usize>
+        ensures rising { AreInKeyOrder self.now }
+        ensures place { IsPlaceOf key.now self.now result }
+    {
+        self.list
+            .as_slice()
+            .binary_search_by(|row| row.key.as_slice().cmp(key))
+    }
 }
