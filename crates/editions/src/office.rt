@@ -89,6 +89,7 @@ fn load<K: Keeper>(alloc: Global, keeper: &mut K) -> Result<Vec<KeptRow>, StartF
     ensures same { K.tables keeper.new ≡ K.tables keeper.old }
     ensures refused { IfErr result IsLoadFault }
     ensures cause { result ≡ Err StartFault.Keeper → Rose (K.faults keeper.old) (K.faults keeper.new) }
+    ensures never_falls { K.faults keeper.old ≤ K.faults keeper.new }
 {
     match keeper.load(alloc) {
         Ok(rows) => Ok(rows),
@@ -122,6 +123,7 @@ impl Office {
         ensures tables { IfOk result (HasTables (K.tables keeper.new)) }
         ensures refused { IfErr result (IsRefusedStart fleet.items (K.tables keeper.old)) }
         ensures cause { result ≡ Err StartFault.Keeper → Rose (K.faults keeper.old) (K.faults keeper.new) }
+        ensures never_falls { K.faults keeper.old ≤ K.faults keeper.new }
     {
         let rows = load(alloc, keeper)?;
         let found = starting_flights(alloc, &fleet, &rows)?;
@@ -189,6 +191,7 @@ impl Office {
         requires within { IsWithinLimits request }
         ensures turn { IsTurn self.old self.new (K.faults keeper.old) (K.faults keeper.new) desk request result }
         ensures tables { HasTables (K.tables keeper.old) self.old → HasTables (K.tables keeper.new) self.new }
+        ensures never_falls { K.faults keeper.old ≤ K.faults keeper.new }
     {
         let key = key_of(&request);
         let place = self.flights.place_of(&key);

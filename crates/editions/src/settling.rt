@@ -1,6 +1,6 @@
 //! An answer is kept: the row is committed, and then the flight is put in its place.
 
-ghost use Rattle.std.specs.Prelude.{◌≡◌, List, Some, Err, IfOk, OnOk, OnErr};
+ghost use Rattle.std.specs.Prelude.{◌≡◌, ◌≤◌, List, Some, Err, IfOk, OnOk, OnErr};
 ghost use Rattle.aircraft_file.specs.Craft.{Craft};
 ghost use Rattle.desk_base.specs.Faults.{Rose};
 ghost use Rattle.flight_row.specs.declared.row.Version.TheVariants.{Two};
@@ -66,6 +66,7 @@ fn keep<K: Keeper>(
     ensures kept { OnOk result (IsKept fleet.now place next flights.old.flights flights.new.flights (K.tables keeper.old) (K.tables keeper.new)) }
     ensures same { OnErr result (IsSame flights.old.flights flights.new.flights (K.tables keeper.old) (K.tables keeper.new)) }
     ensures cause { result ≡ Err KeepFault.Failed → Rose (K.faults keeper.old) (K.faults keeper.new) }
+    ensures never_falls { K.faults keeper.old ≤ K.faults keeper.new }
 {
     let Some(a) = aircraft_of(fleet, &next.leg) else {
         unreachable!();
@@ -93,6 +94,7 @@ pub fn settle<K: Keeper>(
     requires sound { IfOk answer (MakesSound fleet.now) }
     ensures settled { IsSettledBy fleet.now place answer flights.old.flights flights.new.flights (K.tables keeper.old) (K.tables keeper.new) result.0 result.1 }
     ensures cause { result.0 ≡ Outcome.KeeperFailed → Rose (K.faults keeper.old) (K.faults keeper.new) }
+    ensures never_falls { K.faults keeper.old ≤ K.faults keeper.new }
 {
     match answer {
         Ok(Answer::Refused(refusal)) => (Outcome::Done, Reply::Refused(refusal)),
