@@ -1,5 +1,5 @@
 -- an aircraft as contracts see it, and the aircraft that a file describes
-use Rattle.std.specs.Prelude.{ℕ, List, codes, Some, None, Result, Ok, Err}
+use Rattle.std.specs.Prelude.{◌≢◌, ℕ, List, AllPairs, codes, Some, None, Result, Ok, Err}
 use Rattle.mass_units.specs.declared.chord.Chord.{Chord}
 use Rattle.mass_limits.specs.declared.figures.Certified.{Certified}
 use Rattle.payload.specs.declared.figures.Averages.{Averages}
@@ -34,6 +34,10 @@ pub record Craft : Type 0 where
   pub zero_fuel : Outline
   pub take_off : Outline
   pub landing : Outline
+
+-- no two aircraft of a fleet have one registration
+abbrev pub AreApart : List Craft → Type 0
+AreApart fleet = AllPairs (λ (a b : Craft). a.registration ≢ b.registration) fleet
 
 abbrev pub craft_with : Figures → List Zone → Layout → List FuelRow → Envelopes → Craft
 craft_with figures zones hold fuel envelopes = record {

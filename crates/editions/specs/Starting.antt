@@ -1,5 +1,5 @@
 -- how an office starts
-use Rattle.std.specs.Prelude.{◌≡◌, ◌≢◌, ℕ, ◌≤◌, List, [], length, AllPairs, Option}
+use Rattle.std.specs.Prelude.{◌≡◌, ℕ, ◌≤◌, List, [], length, Option}
 use Rattle.aircraft_file.specs.Craft.{Craft}
 use Rattle.keeper.specs.declared.row.KeptRow.{KeptRow}
 use Rattle.keeper.specs.Tables.{Tables, AreAllRows, AreInKeyOrder}
@@ -7,10 +7,6 @@ use Rattle.editions.specs.Books.{Books}
 use Rattle.editions.specs.StartRows.{AreFlightsOf, IsStartRefused}
 use Rattle.editions.specs.declared.starting.StartFault.{StartFault}
 use Rattle.editions.specs.declared.starting.StartFault.TheVariants.{Keeper, BadTable, TooMany, NoMemory}
-
--- no two aircraft of the fleet have one registration
-abbrev pub AreApart : List Craft → Type 0
-AreApart fleet = AllPairs (λ (a b : Craft). a.registration ≢ b.registration) fleet
 
 -- the rows of the keeper's tables, where it exposes them, in the order of their keys
 pub record AreLoaded (held : Option Tables) (rows : List KeptRow) : Type 0 where

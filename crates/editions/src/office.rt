@@ -1,6 +1,7 @@
 //! The office.
 
 ghost use Rattle.std.specs.Prelude.{◌≡◌, ◌+◌, ◌<◌, ◌≤◌, ◌^◌, [], nat_le, length, vec_len, vec_capacity, All, Err, IfOk, IfErr, IfSome};
+ghost use Rattle.aircraft_file.specs.Craft.{AreApart};
 ghost use Rattle.desk_base.specs.Faults.{Rose};
 ghost use Rattle.editions.specs.Acts.{IsWithinLimits};
 ghost use Rattle.editions.specs.Answers.{IsAnswer, IsLawfulAt, MakesSound};
@@ -8,7 +9,7 @@ ghost use Rattle.editions.specs.Books.{HasTables, IsTurn, KnowsHistory, OpensAsK
 ghost use Rattle.editions.specs.Places.{state_at};
 ghost use Rattle.editions.specs.Sound.{IsKeptFlight};
 ghost use Rattle.editions.specs.StartRows.{AreFlightsOf};
-ghost use Rattle.editions.specs.Starting.{AreApart, AreLoaded, IsLoadFault, IsStarted, IsRefusedStart};
+ghost use Rattle.editions.specs.Starting.{AreLoaded, IsLoadFault, IsStarted, IsRefusedStart};
 
 use crate::acts::key_of;
 use crate::answers::{Answer, answer_elsewhere, answer_there};

@@ -2,7 +2,7 @@
 
 ghost use Rattle.std.specs.Prelude.{IfOk};
 ghost use Rattle.editions.specs.Acts.{IsWithinLimits};
-ghost use Rattle.editions.specs.Starting.{AreApart};
+ghost use Rattle.aircraft_file.specs.Craft.{AreApart};
 
 use aircraft_file::{Aircraft, Registration, read_aircraft};
 use desk_base::NoMemory;

@@ -1,7 +1,7 @@
 // The office over keepers in memory: a flight from its opening to its departure, refusals, and failures.
 ghost use Rattle.std.specs.Prelude.{IfOk};
 ghost use Rattle.editions.specs.Acts.{IsPartWithin, IsWithinLimits};
-ghost use Rattle.editions.specs.Starting.{AreApart};
+ghost use Rattle.aircraft_file.specs.Craft.{AreApart};
 
 use aircraft_file::{Aircraft, Registration, read_aircraft};
 use cert_checker::Proven;
