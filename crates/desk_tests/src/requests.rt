@@ -6,71 +6,42 @@ use flight_history::{FigurePart, Request, What};
 use std::alloc::Global;
 use std::test::Fail;
 
-/// A request of each route, with a word for what it asks.
-const REQUESTS: [(&str, &str, &str, &str); 17] = [
-    (
-        "POST",
-        "/flights",
-        r#"{"flight":"XX210","day":"12","registration":"DAIAB","origin":"FRA","destination":"ARN"}"#,
-        "open",
-    ),
-    ("GET", "/flights/XX210-12", "", "row"),
-    (
-        "PUT",
-        "/flights/XX210-12/dry/1",
-        r#"{"mass":42000,"index":"50.00000","cockpit":2,"cabin":4}"#,
-        "dry",
-    ),
-    (
-        "PUT",
-        "/flights/XX210-12/fuel/2",
-        r#"{"taxi":200,"takeoff":9000,"trip":6000}"#,
-        "fuel",
-    ),
-    (
-        "PUT",
-        "/flights/XX210-12/limits/3",
-        r#"{"takeoff":73500,"landing":66000}"#,
-        "limits",
-    ),
-    (
-        "PUT",
-        "/flights/XX210-12/cabin/4",
-        r#"{"zones":[[50,4,2],[70,6,1]]}"#,
-        "cabin",
-    ),
-    (
-        "PUT",
-        "/flights/XX210-12/containers/5",
-        "id,mass\nAKE10001XX,1000\nAKE10002XX,800\n",
-        "containers",
-    ),
-    (
-        "PUT",
-        "/flights/XX210-12/loose/6",
-        r#"{"bulk":[["51",200,8]]}"#,
-        "loose",
-    ),
-    ("POST", "/flights/XX210-12/plan/7", "", "plan"),
-    (
-        "POST",
-        "/flights/XX210-12/plan/7",
-        r#"{"budget":500}"#,
-        "plan",
-    ),
-    ("POST", "/flights/XX210-12/release/7", "", "release"),
-    (
-        "POST",
-        "/flights/XX210-12/lmc/7",
-        r#"{"zone":2,"adults":5,"children":0,"infants":0}"#,
-        "late",
-    ),
-    ("POST", "/flights/XX210-12/reopen/8", "", "reopen"),
-    ("POST", "/flights/XX210-12/depart/9", "", "depart"),
-    ("GET", "/flights/XX210-12/sheet", "", "sheet"),
-    ("GET", "/flights/XX210-12/ldm", "", "ldm"),
-    ("GET", "/flights/XX210-12/cpm", "", "cpm"),
-];
+/// A request of each route: its method, its target, a word for what it asks, and its body. A `~` stands for the end of a
+/// line.
+const REQUESTS: &[u8] =
+    br#"POST|/flights|open|{"flight":"XX210","day":"12","registration":"DAIAB","origin":"FRA","destination":"ARN"}
+GET|/flights/XX210-12|row|
+PUT|/flights/XX210-12/dry/1|dry|{"mass":42000,"index":"50.00000","cockpit":2,"cabin":4}
+PUT|/flights/XX210-12/fuel/2|fuel|{"taxi":200,"takeoff":9000,"trip":6000}
+PUT|/flights/XX210-12/limits/3|limits|{"takeoff":73500,"landing":66000}
+PUT|/flights/XX210-12/cabin/4|cabin|{"zones":[[50,4,2],[70,6,1]]}
+PUT|/flights/XX210-12/containers/5|containers|id,mass~AKE10001XX,1000~AKE10002XX,800~
+PUT|/flights/XX210-12/loose/6|loose|{"bulk":[["51",200,8]]}
+POST|/flights/XX210-12/plan/7|plan|
+POST|/flights/XX210-12/plan/7|plan|{"budget":500}
+POST|/flights/XX210-12/release/7|release|
+POST|/flights/XX210-12/lmc/7|late|{"zone":2,"adults":5,"children":0,"infants":0}
+POST|/flights/XX210-12/reopen/8|reopen|
+POST|/flights/XX210-12/depart/9|depart|
+GET|/flights/XX210-12/sheet|sheet|
+GET|/flights/XX210-12/ldm|ldm|
+GET|/flights/XX210-12/cpm|cpm|"#;
+
+/// Requests that ask nothing, with the first reason against each.
+const REASONS: &[u8] = b"GET|/|no route|
+GET|/flights/XX210-12?full|no route|
+POST|/flights/XX210-12/weight/1|no route|
+GET|/flights|method|
+get|/flights/XX210-12|method|
+POST|/flights/x/dry/0|method|
+PUT|/flights/x/dry/0|edition|
+POST|/flights/x/release/01|edition|x
+POST|/flights/x/plan/4294967296|edition|x
+PUT|/flights/x/dry/1|body|
+GET|/flights/XX210-12|body|x
+POST|/flights/XX210-12/plan/7|body| 
+GET|/flights/XX210-32|no flight|
+POST|/flights/x/depart/1|no flight|";
 
 fn part_word(part: &FigurePart) -> &'static str {
     match part {
@@ -113,19 +84,58 @@ fn word_of(asked: &Asked) -> &'static str {
     }
 }
 
+fn error_word(error: PlainError) -> &'static str {
+    match error {
+        PlainError::NoRoute => "no route",
+        PlainError::Method => "method",
+        PlainError::Edition => "edition",
+        PlainError::Body => "body",
+        PlainError::NoFlight => "no flight",
+        _ => "another error",
+    }
+}
+
+/// The field at this place of a row.
+fn field_at(row: &[u8], place: usize) -> Result<&[u8], Fail> {
+    let field = row.split(|byte| *byte == b'|').nth(place);
+    Ok(field.ok_or("a row has four fields")?)
+}
+
+/// A word for what the request of a row asks, or for the reason against it.
+fn answer_to(alloc: Global, router: &DeskRouter, row: &[u8]) -> Result<&'static str, Fail> {
+    let (method, target) = (field_at(row, 0)?, field_at(row, 1)?);
+    let mut body = field_at(row, 3)?.to_vec(alloc)?;
+    for byte in &mut body {
+        if *byte == b'~' {
+            *byte = b'\n';
+        }
+    }
+    match &read_request(alloc, router, method, target, body.as_slice()) {
+        Ok(asked) => Ok(word_of(asked)),
+        Err(error) => Ok(error_word(*error)),
+    }
+}
+
+/// The first row whose request is answered with another word.
+fn first_wrong(alloc: Global, table: &[u8]) -> Result<Option<usize>, Fail> {
+    let router = DeskRouter::new(alloc)?;
+    for (at, row) in table.split(|byte| *byte == b'\n').enumerate() {
+        if answer_to(alloc, &router, row)?.as_bytes() != field_at(row, 2)? {
+            return Ok(Some(at));
+        }
+    }
+    Ok(None)
+}
+
 #[test]
 fn each_route_asks_its_request(rt: HostRuntime) -> Result<(), Fail> {
-    let router = DeskRouter::new(rt.alloc())?;
-    for (method, target, body, word) in REQUESTS {
-        let asked = read_request(
-            rt.alloc(),
-            &router,
-            method.as_bytes(),
-            target.as_bytes(),
-            body.as_bytes(),
-        )?;
-        assert_eq!(rt; word_of(&asked), word, "at {}", target);
-    }
+    assert_eq!(rt; first_wrong(rt.alloc(), REQUESTS)?, None);
+    Ok(())
+}
+
+#[test]
+fn the_first_reason_is_named(rt: HostRuntime) -> Result<(), Fail> {
+    assert_eq!(rt; first_wrong(rt.alloc(), REASONS)?, None);
     Ok(())
 }
 
@@ -167,61 +177,5 @@ fn the_target_and_the_body_tell_the_parts(rt: HostRuntime) -> Result<(), Fail> {
             }) if key.bytes() == second
         )
     );
-    Ok(())
-}
-
-/// Requests that ask nothing, with the first reason against each.
-const REASONS: [(&str, &str, &str, PlainError); 14] = [
-    ("GET", "/", "", PlainError::NoRoute),
-    ("GET", "/flights/XX210-12?full", "", PlainError::NoRoute),
-    (
-        "POST",
-        "/flights/XX210-12/weight/1",
-        "",
-        PlainError::NoRoute,
-    ),
-    ("GET", "/flights", "", PlainError::Method),
-    ("get", "/flights/XX210-12", "", PlainError::Method),
-    ("POST", "/flights/x/dry/0", "", PlainError::Method),
-    ("PUT", "/flights/x/dry/0", "", PlainError::Edition),
-    ("POST", "/flights/x/release/01", "x", PlainError::Edition),
-    (
-        "POST",
-        "/flights/x/plan/4294967296",
-        "x",
-        PlainError::Edition,
-    ),
-    ("PUT", "/flights/x/dry/1", "", PlainError::Body),
-    ("GET", "/flights/XX210-12", "x", PlainError::Body),
-    ("POST", "/flights/XX210-12/plan/7", " ", PlainError::Body),
-    ("GET", "/flights/XX210-32", "", PlainError::NoFlight),
-    ("POST", "/flights/x/depart/1", "", PlainError::NoFlight),
-];
-
-/// The error of a request that asks nothing.
-fn error_of(
-    alloc: Global,
-    router: &DeskRouter,
-    method: &str,
-    target: &str,
-    body: &str,
-) -> Option<PlainError> {
-    read_request(
-        alloc,
-        router,
-        method.as_bytes(),
-        target.as_bytes(),
-        body.as_bytes(),
-    )
-    .err()
-}
-
-#[test]
-fn the_first_reason_is_named(rt: HostRuntime) -> Result<(), Fail> {
-    let router = DeskRouter::new(rt.alloc())?;
-    for (method, target, body, error) in REASONS {
-        let named = error_of(rt.alloc(), &router, method, target, body);
-        assert_eq!(rt; named, Some(error), "at {} {}", method, target);
-    }
     Ok(())
 }

@@ -1,38 +1,72 @@
 // The route of each path, and targets that have none.
 use desk_routes::{DeskRouter, Route, edition_in, key_in, read_edition};
+use std::alloc::Global;
 use std::test::Fail;
 
-const TARGETS: [(&str, Option<Route>); 22] = [
-    ("/flights", Some(Route::Flights)),
-    ("/flights/XX210-12", Some(Route::Flight)),
-    ("/flights/XX210-12/dry/7", Some(Route::Dry)),
-    ("/flights/XX210-12/fuel/7", Some(Route::Fuel)),
-    ("/flights/XX210-12/limits/7", Some(Route::Limits)),
-    ("/flights/XX210-12/cabin/7", Some(Route::Cabin)),
-    ("/flights/XX210-12/containers/7", Some(Route::Containers)),
-    ("/flights/XX210-12/loose/7", Some(Route::Loose)),
-    ("/flights/XX210-12/plan/7", Some(Route::Plan)),
-    ("/flights/XX210-12/release/7", Some(Route::Release)),
-    ("/flights/XX210-12/lmc/7", Some(Route::Late)),
-    ("/flights/XX210-12/reopen/7", Some(Route::Reopen)),
-    ("/flights/XX210-12/depart/7", Some(Route::Depart)),
-    ("/flights/XX210-12/sheet", Some(Route::Sheet)),
-    ("/flights/XX210-12/ldm", Some(Route::Ldm)),
-    ("/flights/XX210-12/cpm", Some(Route::Cpm)),
-    ("/flights/", None),
-    ("/flights//dry/7", None),
-    ("/flights/XX210-12/dry/7?x", None),
-    ("/flights/XX210-12/weight/7", None),
-    ("/flights/XX210-12/dry", None),
-    ("*", None),
-];
+/// Targets, each with the name of its route.
+const TARGETS: &[u8] = b"/flights Flights
+/flights/XX210-12 Flight
+/flights/XX210-12/dry/7 Dry
+/flights/XX210-12/fuel/7 Fuel
+/flights/XX210-12/limits/7 Limits
+/flights/XX210-12/cabin/7 Cabin
+/flights/XX210-12/containers/7 Containers
+/flights/XX210-12/loose/7 Loose
+/flights/XX210-12/plan/7 Plan
+/flights/XX210-12/release/7 Release
+/flights/XX210-12/lmc/7 Late
+/flights/XX210-12/reopen/7 Reopen
+/flights/XX210-12/depart/7 Depart
+/flights/XX210-12/sheet Sheet
+/flights/XX210-12/ldm Ldm
+/flights/XX210-12/cpm Cpm
+/flights/ None
+/flights//dry/7 None
+/flights/XX210-12/dry/7?x None
+/flights/XX210-12/weight/7 None
+/flights/XX210-12/dry None
+* None";
+
+fn name_of(route: Option<Route>) -> &'static str {
+    match route {
+        Some(Route::Flights) => "Flights",
+        Some(Route::Flight) => "Flight",
+        Some(Route::Dry) => "Dry",
+        Some(Route::Fuel) => "Fuel",
+        Some(Route::Limits) => "Limits",
+        Some(Route::Cabin) => "Cabin",
+        Some(Route::Containers) => "Containers",
+        Some(Route::Loose) => "Loose",
+        Some(Route::Plan) => "Plan",
+        Some(Route::Release) => "Release",
+        Some(Route::Late) => "Late",
+        Some(Route::Reopen) => "Reopen",
+        Some(Route::Depart) => "Depart",
+        Some(Route::Sheet) => "Sheet",
+        Some(Route::Ldm) => "Ldm",
+        Some(Route::Cpm) => "Cpm",
+        None => "None",
+    }
+}
+
+/// The first target with another route.
+fn first_wrong(alloc: Global, targets: &[u8]) -> Result<Option<usize>, Fail> {
+    let router = DeskRouter::new(alloc)?;
+    for (at, row) in targets.split(|byte| *byte == b'\n').enumerate() {
+        let mut words = row.split(|byte| *byte == b' ');
+        let target = words.next().ok_or("a target")?;
+        let name = words.next().ok_or("a route")?;
+        if name_of(router.route(target)).as_bytes() != name {
+            return Ok(Some(at));
+        }
+    }
+    Ok(None)
+}
 
 #[test]
 fn each_path_has_its_route(rt: HostRuntime) -> Result<(), Fail> {
+    assert_eq!(rt; first_wrong(rt.alloc(), TARGETS)?, None);
     let router = DeskRouter::new(rt.alloc())?;
-    for (target, route) in TARGETS {
-        assert_eq!(rt; router.route(target.as_bytes()), route, "at {}", target);
-    }
     assert_eq!(rt; router.route(b"/flights/\xff/dry/7"), None);
     Ok(())
 }

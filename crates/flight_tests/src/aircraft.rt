@@ -1,237 +1,153 @@
 // The file of the worked day, edits of it key by key, and files whose keys describe no lawful aircraft.
+use crate::tables::{edited, field_at};
 use crate::worked_day::DAIAB;
-use aircraft_file::{Aircraft, FileFault, read_aircraft};
-use envelope::{Corner, EnvFault};
-use fuel_table::{FuelFault, FuelRow};
-use hold_limits::{HoldFault, Position};
+use aircraft_file::{Aircraft, read_aircraft};
+use envelope::Corner;
+use fuel_table::FuelRow;
+use hold_limits::Position;
 use mass_limits::Certified;
 use mass_units::{Chord, Kg, Ticks};
 use payload::{Averages, Zone};
 use std::alloc::Global;
 use std::test::Fail;
 
-/// A key: its number, its text in the file, a text without it, and a text where it is not in its form.
-type Case = (usize, &'static str, &'static str, &'static str);
-
-const FIGURES: [Case; 21] = [
-    (
-        1,
-        r#"registration = "DAIAB""#,
-        "",
-        r#"registration = "D-AIAB""#,
-    ),
-    (2, r#"version = "Y150""#, "", "version = 150"),
-    (3, "mass = 42000", "", "mass = 0"),
-    (4, r#"index = "50.00000""#, "", r#"index = "10000.00001""#),
-    (5, r#"k = "50.00000""#, "", "k = 50.00000"),
-    (6, "\nc = 1000", "", "\nc = 1000001"),
-    (7, "reference = 18850", "", "reference = 100001"),
-    (8, "lemac = 17800", "", "lemac = -100001"),
-    (9, "\nmac = 4190", "", "\nmac = 0"),
-    (10, "ramp = 73900", "", "ramp = 1000001"),
-    (11, "zero_fuel = 62500", "", "zero_fuel = 62500.0"),
-    (12, "take_off = 73500", "", r#"take_off = "73500""#),
-    (13, "landing = 66000", "", "landing = -66000"),
-    (14, "mass = 500", "", "mass = -1"),
-    (15, r#"index = "5.00000""#, "", r#"index = "-0.00001""#),
-    (16, r#"low = "50.00000""#, "", r#"low = "50.0""#),
-    (17, r#"high = "51.00000""#, "", r#"high = "49.99999""#),
-    (18, "adult = 84", "", "adult = 301"),
-    (19, "child = 35", "", "child = -1"),
-    (20, "infant = 10", "", "infant = true"),
-    (21, "bag = 15", "", "bag = 15.5"),
-];
-
-const LISTS: [Case; 9] = [
-    (22, "[[zone]]", "[[other]]", "[[zone]]\n[[zone]]"),
-    (
-        23,
-        "[[position]]",
-        "[[other]]",
-        "[[position]]\n[[position]]",
-    ),
-    (
-        28,
-        r#"rows = [[0, "0.00000"]"#,
-        "other = [[]",
-        "rows = [[0]",
-    ),
-    (
-        29,
-        r#"forward = [[40000, "40.00000"]"#,
-        "other = [[]",
-        "forward = [40000",
-    ),
-    (
-        30,
-        r#"aft = [[40000, "60.00000"]"#,
-        "other = [[]",
-        r#"aft = [[1000001, "60.00000"]"#,
-    ),
-    (
-        31,
-        r#"forward = [[40000, "38.00000"]"#,
-        "other = [[]",
-        r#"forward = [[40000, "38"]"#,
-    ),
-    (
-        32,
-        r#"aft = [[40000, "62.00000"]"#,
-        "other = [[]",
-        r#"aft = [[40000, "62.00000", 1]"#,
-    ),
-    (
-        33,
-        r#"forward = [[40000, "39.00000"]"#,
-        "other = [[]",
-        r#"forward = [[-1, "39.00000"]"#,
-    ),
-    (
-        34,
-        r#"aft = [[40000, "61.00000"]"#,
-        "other = [[]",
-        r#"aft = [["61.00000", 40000]"#,
-    ),
-];
+/// Keys, a row for each: its number, its text in the file, a text without it, and a text where it is not in its form. A `~`
+/// stands for the end of a line.
+const KEYS: &[u8] = br#"1|registration = "DAIAB"||registration = "D-AIAB"
+2|version = "Y150"||version = 150
+3|mass = 42000||mass = 0
+4|index = "50.00000"||index = "10000.00001"
+5|k = "50.00000"||k = 50.00000
+6|~c = 1000||~c = 1000001
+7|reference = 18850||reference = 100001
+8|lemac = 17800||lemac = -100001
+9|~mac = 4190||~mac = 0
+10|ramp = 73900||ramp = 1000001
+11|zero_fuel = 62500||zero_fuel = 62500.0
+12|take_off = 73500||take_off = "73500"
+13|landing = 66000||landing = -66000
+14|mass = 500||mass = -1
+15|index = "5.00000"||index = "-0.00001"
+16|low = "50.00000"||low = "50.0"
+17|high = "51.00000"||high = "49.99999"
+18|adult = 84||adult = 301
+19|child = 35||child = -1
+20|infant = 10||infant = true
+21|bag = 15||bag = 15.5
+22|[[zone]]|[[other]]|[[zone]]~[[zone]]
+23|[[position]]|[[other]]|[[position]]~[[position]]
+28|rows = [[0, "0.00000"]|other = [[]|rows = [[0]
+29|forward = [[40000, "40.00000"]|other = [[]|forward = [40000
+30|aft = [[40000, "60.00000"]|other = [[]|aft = [[1000001, "60.00000"]
+31|forward = [[40000, "38.00000"]|other = [[]|forward = [[40000, "38"]
+32|aft = [[40000, "62.00000"]|other = [[]|aft = [[40000, "62.00000", 1]
+33|forward = [[40000, "39.00000"]|other = [[]|forward = [[-1, "39.00000"]
+34|aft = [[40000, "61.00000"]|other = [[]|aft = [["61.00000", 40000]"#;
 
 /// The keys that may be absent, of which the file has two.
-const LIMITS: [Case; 7] = [
-    (
-        24,
-        "[hold]",
-        "[hold]",
-        "[hold]\nexclude = [[\"11\", \"99\"]]",
-    ),
-    (
-        25,
-        r#"combined = [[2500, "11", "12"]]"#,
-        "",
-        "combined = [[2500]]",
-    ),
-    (26, "[hold]", "[hold]", "[hold]\nforward = [[4500, \"11\"]]"),
-    (27, r#"aft = [["41", 4500]]"#, "", r#"aft = [["41"]]"#),
-    (35, "[hold]", "[hold]", "[hold]\nlateral = 1000001"),
-    (
-        36,
-        "[hold]",
-        "[hold]\nlateral = 0",
-        "[hold]\nlateral = 0\nleft = [\"11\", \"11\"]",
-    ),
-    (
-        37,
-        "[hold]",
-        "[hold]\nleft = [\"11\", \"99\"]\nright = 5",
-        "[hold]\nlateral = 0\nleft = [\"11\"]\nright = [\"11\"]",
-    ),
-];
+const LIMITS: &[u8] = br#"24|[hold]|[hold]|[hold]~exclude = [["11", "99"]]
+25|combined = [[2500, "11", "12"]]||combined = [[2500]]
+26|[hold]|[hold]|[hold]~forward = [[4500, "11"]]
+27|aft = [["41", 4500]]||aft = [["41"]]
+35|[hold]|[hold]|[hold]~lateral = 1000001
+36|[hold]|[hold]~lateral = 0|[hold]~lateral = 0~left = ["11", "11"]
+37|[hold]|[hold]~left = ["11", "99"]~right = 5|[hold]~lateral = 0~left = ["11"]~right = ["11"]"#;
 
-/// The result for the file with some of its texts replaced.
-fn read_with(alloc: Global, edits: &[(&str, &str)]) -> Result<Result<Aircraft, FileFault>, Fail> {
-    let mut text = String::from_str(alloc, DAIAB)?;
-    for (old, new) in edits {
-        text = text.replace(alloc, *old, new)?;
+/// Edits of the file, a row for each: how it is refused, and then pairs of a text and of what stands in its place.
+const FIRST_FAULTS: &[u8] = br#"envelope 3 ends below the certified mass|[70000, |[65999, 
+the fuel table is not lawful: row 1 has no more fuel than the one before it|[3000, |[0, |[70000, |[65999, 
+envelope 1 is not lawful: the sides cross at Kg(65000)|[65000, "45.00000"]|[65000, "61.00000"]|[3000, |[0, 
+the hold is not lawful: position 3 has the name of an earlier one|name = "42"|name = "41"|[65000, "45.00000"]|[65000, "61.00000"]
+key 25 is wrong|name = "12"|name = "11"|name = "42"|name = "41"
+key 17 is wrong|low = "50.00000"|low = "52.00000"|name = "12"|name = "11"
+key 1 is missing|registration = "DAIAB"||low = "50.00000"|low = "52.00000"
+the file is not a TOML document|registration = "DAIAB"||[dry]|["#;
+
+/// Edits of the file that break or keep the rule of a single form, as above.
+const SINGLE_FORMS: &[u8] = br#"key 3 is missing|[dry]|dry = 5~[other]
+the file is not a TOML document|mass = 42000|mass = 9223372036854775808
+key 23 is wrong|bulk = true|bulk = true~fits = []
+key 23 is wrong|bulk = true|bulk = false
+the hold is not lawful: position 4|bulk = true|fits = []
+the hold is not lawful: the influence of position 4|influence = 900|influence = 999999999
+an aircraft|bulk = true|bulk = false~fits = [["AKE", 1500]]
+key 35 is wrong|[hold]|[hold]~lateral = -1
+key 36 is wrong|[hold]|[hold]~lateral = 0~left = ["99"]
+key 37 is wrong|[hold]|[hold]~lateral = 0~right = ["12", "99"]
+key 37 is wrong|[hold]|[hold]~lateral = 0~right = ["12", "12"]"#;
+
+/// What is said of a file: that it describes an aircraft, or why not.
+fn said_of(alloc: Global, text: &str) -> Result<String, Fail> {
+    match read_aircraft(alloc, text.as_bytes()) {
+        Ok(_) => Ok(String::from_str(alloc, "an aircraft")?),
+        Err(fault) => Ok(format!(in alloc; "{fault}")?),
     }
-    Ok(read_aircraft(alloc, text.as_bytes()))
 }
 
-/// The fault of the file with some of its texts replaced, if it has one.
-fn fault_with(alloc: Global, edits: &[(&str, &str)]) -> Result<Option<FileFault>, Fail> {
-    Ok(read_with(alloc, edits)?.err())
+/// What is said of the file with the text in the place of another.
+fn said_with(alloc: Global, old: &str, new: &str) -> Result<String, Fail> {
+    said_of(
+        alloc,
+        String::from_str(alloc, DAIAB)?
+            .replace(alloc, old, new)?
+            .as_str(),
+    )
+}
+
+/// The first row of which something else is said where its key is absent, or is not in its form.
+fn first_wrong_key(alloc: Global, keys: &[u8], absent: &str) -> Result<Option<usize>, Fail> {
+    for (at, row) in keys.split(|byte| *byte == b'\n').enumerate() {
+        let number = field_at(alloc, row, 0)?;
+        let old = field_at(alloc, row, 1)?;
+        let without = said_with(alloc, old.as_str(), field_at(alloc, row, 2)?.as_str())?;
+        let wrong = said_with(alloc, old.as_str(), field_at(alloc, row, 3)?.as_str())?;
+        let missing = absent.replace(alloc, "N", number.as_str())?;
+        if without != missing || wrong != format!(in alloc; "key {number} is wrong")? {
+            return Ok(Some(at));
+        }
+    }
+    Ok(None)
+}
+
+/// The first row of edits of which something else is said.
+fn first_wrong_edit(alloc: Global, edits: &[u8]) -> Result<Option<usize>, Fail> {
+    for (at, row) in edits.split(|byte| *byte == b'\n').enumerate() {
+        let said = field_at(alloc, row, 0)?;
+        if !said_of(alloc, edited(alloc, DAIAB, row)?.as_str())?
+            .as_str()
+            .starts_with(said.as_str())
+        {
+            return Ok(Some(at));
+        }
+    }
+    Ok(None)
+}
+
+/// The aircraft of the file with one text in the place of another.
+fn aircraft_with(alloc: Global, old: &str, new: &str) -> Result<Aircraft, Fail> {
+    let text = String::from_str(alloc, DAIAB)?.replace(alloc, old, new)?;
+    Ok(read_aircraft(alloc, text.as_bytes())?)
 }
 
 #[test]
 fn each_key_may_be_missing_or_wrong(rt: HostRuntime) -> Result<(), Fail> {
-    for (number, text, absent, wrong) in FIGURES.iter().chain(LISTS.iter()) {
-        let missing = fault_with(rt.alloc(), &[(text, absent)])?;
-        assert!(rt; missing == Some(FileFault::Missing(*number)), "{number}");
-        let wrong = fault_with(rt.alloc(), &[(text, wrong)])?;
-        assert!(rt; wrong == Some(FileFault::Wrong(*number)), "{number}");
-    }
-    for (number, text, absent, wrong) in &LIMITS {
-        assert!(rt;
-            fault_with(rt.alloc(), &[(text, absent)])?.is_none(),
-            "{number}"
-        );
-        let wrong = fault_with(rt.alloc(), &[(text, wrong)])?;
-        assert!(rt; wrong == Some(FileFault::Wrong(*number)), "{number}");
-    }
+    assert_eq!(rt;
+        first_wrong_key(rt.alloc(), KEYS, "key N is missing")?,
+        None
+    );
+    assert_eq!(rt; first_wrong_key(rt.alloc(), LIMITS, "an aircraft")?, None);
     Ok(())
 }
 
 #[test]
 fn the_first_fault_decides(rt: HostRuntime) -> Result<(), Fail> {
-    let registration = (r#"registration = "DAIAB""#, "");
-    let crossed_band = (r#"low = "50.00000""#, r#"low = "52.00000""#);
-    let short_landing = ("[70000, ", "[65999, ");
-    let crossed_sides = (r#"[65000, "45.00000"]"#, r#"[65000, "61.00000"]"#);
-    let lost_name = (r#"name = "12""#, r#"name = "11""#);
-    let same_name = (r#"name = "42""#, r#"name = "41""#);
-    let level_rows = ("[3000, ", "[0, ");
-    let crossed = FileFault::Envelope(1, EnvFault::Crossed(Kg(65_000)));
-    let table: [(&[(&str, &str)], FileFault); 8] = [
-        (&[short_landing], FileFault::Span(3)),
-        (
-            &[level_rows, short_landing],
-            FileFault::Fuel(FuelFault::NotRising(1)),
-        ),
-        (&[crossed_sides, level_rows], crossed),
-        (
-            &[same_name, crossed_sides],
-            FileFault::Hold(HoldFault::SameName(3)),
-        ),
-        (&[lost_name, same_name], FileFault::Wrong(25)),
-        (&[crossed_band, lost_name], FileFault::Wrong(17)),
-        (&[registration, crossed_band], FileFault::Missing(1)),
-        (&[registration, ("[dry]", "[")], FileFault::Toml),
-    ];
-    for (edits, fault) in table {
-        let got = fault_with(rt.alloc(), edits)?;
-        assert!(rt; got == Some(fault), "{edits:?}");
-    }
+    assert_eq!(rt; first_wrong_edit(rt.alloc(), FIRST_FAULTS)?, None);
     Ok(())
 }
 
 #[test]
 fn rules_of_single_forms(rt: HostRuntime) -> Result<(), Fail> {
-    let bulk = "bulk = true";
-    let hold = "[hold]";
-    let table = [
-        ("[dry]", "dry = 5\n[other]", Some(FileFault::Missing(3))),
-        (
-            "mass = 42000",
-            "mass = 9223372036854775808",
-            Some(FileFault::Toml),
-        ),
-        (bulk, "bulk = true\nfits = []", Some(FileFault::Wrong(23))),
-        (bulk, "bulk = false", Some(FileFault::Wrong(23))),
-        (bulk, "fits = []", Some(FileFault::Hold(HoldFault::Fits(4)))),
-        (
-            "influence = 900",
-            "influence = 999999999",
-            Some(FileFault::Hold(HoldFault::Influence(4))),
-        ),
-        (bulk, "bulk = false\nfits = [[\"AKE\", 1500]]", None),
-        (hold, "[hold]\nlateral = -1", Some(FileFault::Wrong(35))),
-        (
-            hold,
-            "[hold]\nlateral = 0\nleft = [\"99\"]",
-            Some(FileFault::Wrong(36)),
-        ),
-        (
-            hold,
-            "[hold]\nlateral = 0\nright = [\"12\", \"99\"]",
-            Some(FileFault::Wrong(37)),
-        ),
-        (
-            hold,
-            "[hold]\nlateral = 0\nright = [\"12\", \"12\"]",
-            Some(FileFault::Wrong(37)),
-        ),
-    ];
-    for (old, new, fault) in table {
-        let got = fault_with(rt.alloc(), &[(old, new)])?;
-        assert!(rt; got == fault, "{new}");
-    }
+    assert_eq!(rt; first_wrong_edit(rt.alloc(), SINGLE_FORMS)?, None);
     Ok(())
 }
 
@@ -262,10 +178,7 @@ fn is_position(position: &Position, name: &[u8], compartment: u8, influence: i32
 
 #[test]
 fn the_file_is_read(rt: HostRuntime) -> Result<(), Fail> {
-    let Ok(aircraft) = read_with(rt.alloc(), &[])? else {
-        assert!(rt; false);
-        return Ok(());
-    };
+    let aircraft = read_aircraft(rt.alloc(), DAIAB.as_bytes())?;
     assert!(rt; has_figures(&aircraft));
     let chord = Chord {
         k: Ticks(5_000_000),
@@ -305,10 +218,7 @@ fn the_file_is_read(rt: HostRuntime) -> Result<(), Fail> {
 
 #[test]
 fn its_hold_is_read(rt: HostRuntime) -> Result<(), Fail> {
-    let Ok(aircraft) = read_with(rt.alloc(), &[])? else {
-        assert!(rt; false);
-        return Ok(());
-    };
+    let aircraft = read_aircraft(rt.alloc(), DAIAB.as_bytes())?;
     let positions = aircraft.hold().positions();
     assert_eq!(rt; positions.len(), 5);
     assert!(rt; is_position(&positions[0], b"11", 1, -600));
@@ -342,10 +252,7 @@ fn has_ends(side: &[Corner], first: (u32, i64), last: (u32, i64)) -> bool {
 
 #[test]
 fn its_balance_is_read(rt: HostRuntime) -> Result<(), Fail> {
-    let Ok(aircraft) = read_with(rt.alloc(), &[])? else {
-        assert!(rt; false);
-        return Ok(());
-    };
+    let aircraft = read_aircraft(rt.alloc(), DAIAB.as_bytes())?;
     let rows = aircraft.fuel().rows();
     assert_eq!(rt; rows.len(), 4);
     assert_eq!(rt;
@@ -385,10 +292,7 @@ fn its_balance_is_read(rt: HostRuntime) -> Result<(), Fail> {
 #[test]
 fn forward_limits_stand_before_aft_ones(rt: HostRuntime) -> Result<(), Fail> {
     let limits = "[hold]\nforward = [[\"12\", 3000]]\nexclude = [[\"11\", \"42\"]]";
-    let Ok(aircraft) = read_with(rt.alloc(), &[("[hold]", limits)])? else {
-        assert!(rt; false);
-        return Ok(());
-    };
+    let aircraft = aircraft_with(rt.alloc(), "[hold]", limits)?;
     assert_eq!(rt; aircraft.hold().excludes(), [(0, 3)].as_slice());
     let cumulative = aircraft.hold().cumulative();
     assert_eq!(rt; cumulative.len(), 2);
@@ -402,10 +306,7 @@ fn forward_limits_stand_before_aft_ones(rt: HostRuntime) -> Result<(), Fail> {
 #[test]
 fn sides_stand_in_position_order(rt: HostRuntime) -> Result<(), Fail> {
     let sides = "[hold]\nright = [\"42\", \"11\"]\nlateral = 500\nleft = [\"41\", \"12\"]";
-    let Ok(aircraft) = read_with(rt.alloc(), &[("[hold]", sides)])? else {
-        assert!(rt; false);
-        return Ok(());
-    };
+    let aircraft = aircraft_with(rt.alloc(), "[hold]", sides)?;
     let Some(lateral) = aircraft.hold().lateral() else {
         assert!(rt; false);
         return Ok(());
@@ -414,10 +315,7 @@ fn sides_stand_in_position_order(rt: HostRuntime) -> Result<(), Fail> {
     let in_order = [(0, true), (1, false), (2, false), (3, true)];
     assert_eq!(rt; lateral.sides.as_slice(), in_order.as_slice());
     let left_alone = "[hold]\nlateral = 1000000\nleft = [\"51\"]";
-    let Ok(aircraft) = read_with(rt.alloc(), &[("[hold]", left_alone)])? else {
-        assert!(rt; false);
-        return Ok(());
-    };
+    let aircraft = aircraft_with(rt.alloc(), "[hold]", left_alone)?;
     assert_eq!(rt; aircraft.hold().sides(), [(4, false)].as_slice());
     Ok(())
 }

@@ -1,92 +1,60 @@
 // The worked day: its task and its balance, days that are refused, and each rule broken alone.
-use crate::worked_day::DAIAB;
+use crate::tables::{edited, field_at};
+use crate::worked_day::{DAIAB, ROW};
 use aircraft_file::{Aircraft, read_aircraft};
 use arrayvec::ArrayVec;
-use desk_base::NoMemory;
-use hold_limits::{
-    Item, Name, Path, Task, TaskFault, UldId, hold_index_of, is_in_window, is_sound,
-};
+use flight_row::read_row;
+use hold_limits::{Path, Task, hold_index_of, is_in_window, is_sound};
 use mass_limits::{Limiting, Masses, Underload};
 use mass_units::{Kg, Ticks};
-use payload::{Cabin, PayFault, ZoneCount};
 use std::alloc::Global;
+use std::slice;
 use std::test::Fail;
-use trim::{
-    Balance, Dry, Figures, Fuel, Items, LooseFigure, LooseList, Regulated, Rule, Rules, TrimFault,
-    broken_rules, state_of, task_of,
-};
+use trim::{Balance, Figures, Rule, Rules, TrimFault, broken_rules, state_of, task_of};
+
+/// Edits of the worked day's row, a row for each: why its figures leave no task, and the edits.
+const FAULTS: &[u8] = b"the fuel table does not have Kg(20001) of fuel|fuel 200 9000|fuel 200 20001
+zone 1 has more adults and children than its 60 seats|zone 50 4 2|zone 57 4 2
+loose load 1 has no bulk position, or is over 20000 kg|loose 51 200 8|loose 51 19880 8~loose 42 100 0
+no index is inside envelope 1 at the mass of the flight|dry 42000|dry 52421
+no index is inside envelope 2 at the mass of the flight|dry 42000|dry 52420|fuel 200 9000|fuel 200 10001
+no index is inside envelope 3 at the mass of the flight|dry 42000|dry 52420|9000 6000|10000 4999
+container 1 has the identity of an earlier one|AKE10002XX|AKE10001XX";
+
+/// The same: the only rule that its figures break, with the containers on positions 11 and 42.
+const BROKEN_ALONE: &[u8] = b"RAMP|fuel 200|fuel 10321
+ZERO FUEL|dry 42000|dry 49921
+TAKE OFF|limits 73500|limits 63579
+LANDING|limits 73500 66000|limits 73500 57579
+REGULATED|limits 73500|limits 73501
+REGULATED|limits 73500 66000|limits 73500 66001
+ZERO FUEL ENVELOPE|dry 42000 50.00000|dry 42000 41.00000
+TAKE OFF ENVELOPE|dry 42000 50.00000|dry 42000 41.29000|9000 6000|18000 12000
+LANDING ENVELOPE|dry 42000 50.00000|dry 42000 41.34000|9000 6000|10000 100";
 
 fn daiab(alloc: Global) -> Result<Aircraft, Fail> {
     Ok(read_aircraft(alloc, DAIAB.as_bytes())?)
 }
 
-fn item(id: &[u8], mass: u32) -> Result<Item, Fail> {
-    match UldId::read(id) {
-        Some(id) => Ok(Item { id, mass: Kg(mass) }),
-        None => Err(Fail::from(NoMemory)),
-    }
-}
-
-fn loose(position: &[u8], mass: u32, pieces: u16) -> Result<LooseFigure, Fail> {
-    match Name::read(position) {
-        Some(position) => Ok(LooseFigure {
-            position,
-            mass: Kg(mass),
-            pieces,
-        }),
-        None => Err(Fail::from(NoMemory)),
-    }
-}
-
-fn zone(adults: u16, children: u16, infants: u16) -> ZoneCount {
-    ZoneCount {
-        adults,
-        children,
-        infants,
-    }
-}
-
-/// A cabin of two zones.
-fn cabin(alloc: Global, first: ZoneCount, second: ZoneCount) -> Result<Cabin, Fail> {
-    let mut counts = Vec::new(alloc);
-    counts.push(first)?;
-    counts.push(second)?;
-    Ok(Cabin::from(counts))
+/// The figures of the worked day, whose row has the edits of a row of a table, before there was a plan.
+fn figures_with(alloc: Global, row: &[u8]) -> Result<Figures, Fail> {
+    let text = edited(alloc, ROW, row)?
+        .replace(alloc, "stage released", "stage working")?
+        .replace(alloc, "releases 1", "releases 0")?
+        .replace(alloc, "plan 11 42\n", "")?;
+    let fleet = daiab(alloc)?;
+    Ok(read_row(alloc, slice::from_ref(&fleet), text.as_bytes())?.base)
 }
 
 /// The figures of the worked day.
 fn worked(alloc: Global) -> Result<Figures, Fail> {
-    let mut items = Vec::new(alloc);
-    items.push(item(b"AKE10001XX", 1000)?)?;
-    items.push(item(b"AKE10002XX", 800)?)?;
-    let mut loads = Vec::new(alloc);
-    loads.push(loose(b"51", 200, 8)?)?;
-    Ok(Figures {
-        dry: Dry {
-            mass: Kg(42_000),
-            index: Ticks(5_000_000),
-            cockpit: 2,
-            attendants: 4,
-        },
-        fuel: Fuel {
-            taxi: Kg(200),
-            take_off: Kg(9000),
-            trip: Kg(6000),
-        },
-        regulated: Regulated {
-            take_off: Kg(73_500),
-            landing: Kg(66_000),
-        },
-        cabin: cabin(alloc, zone(50, 4, 2), zone(70, 6, 1))?,
-        containers: Items::from(items),
-        loose: LooseList::from(loads),
-    })
+    figures_with(alloc, b"")
 }
 
 /// The answer of `task_of`. No figures here are beyond the limits that it asks for.
 fn task(alloc: Global, figures: &Figures) -> Result<Result<Task, TrimFault>, Fail> {
     if !figures.keeps_limits() {
-        return Err(Fail::from(NoMemory));
+        return Err(Fail::new("the figures are within their limits"));
     }
     Ok(task_of(alloc, &daiab(alloc)?, figures))
 }
@@ -107,56 +75,77 @@ fn rules(
 ) -> Result<Result<Rules, TrimFault>, Fail> {
     let path = path(first, second);
     if !figures.keeps_limits() || path.len() != figures.containers.as_slice().len() {
-        return Err(Fail::from(NoMemory));
+        return Err(Fail::new("the figures are within their limits"));
     }
     Ok(broken_rules(&daiab(alloc)?, figures, &path))
 }
 
-/// Whether the task fails so.
-fn has_fault(alloc: Global, figures: &Figures, fault: TrimFault) -> Result<bool, Fail> {
-    Ok(task(alloc, figures)?.err() == Some(fault))
+/// The first row of faults whose figures have a task, or none for another reason.
+fn first_other_fault(alloc: Global, faults: &[u8]) -> Result<Option<usize>, Fail> {
+    for (at, row) in faults.split(|byte| *byte == b'\n').enumerate() {
+        let due = field_at(alloc, row, 0)?;
+        let Err(fault) = task(alloc, &figures_with(alloc, row)?)? else {
+            return Ok(Some(at));
+        };
+        if format!(in alloc; "{fault}")? != due {
+            return Ok(Some(at));
+        }
+    }
+    Ok(None)
 }
 
-/// Whether the plan with the containers on positions 11 and 42 breaks this rule and no other.
-fn breaks_alone(alloc: Global, figures: &Figures, rule: Rule) -> Result<bool, Fail> {
-    let rules = rules(alloc, figures, 0, 3)??;
-    Ok(rules.as_slice() == [rule].as_slice())
+/// The first row of rules whose figures break another one, or none.
+fn first_other_rule(alloc: Global, broken: &[u8]) -> Result<Option<usize>, Fail> {
+    for (at, row) in broken.split(|byte| *byte == b'\n').enumerate() {
+        let due = field_at(alloc, row, 0)?;
+        let rules = rules(alloc, &figures_with(alloc, row)?, 0, 3)??;
+        if rules.len() != 1
+            || !rules
+                .as_slice()
+                .iter()
+                .all(|rule| rule.text() == due.as_str())
+        {
+            return Ok(Some(at));
+        }
+    }
+    Ok(None)
 }
 
 #[test]
 fn the_worked_day_has_its_task(rt: HostRuntime) -> Result<(), Fail> {
     let task = task(rt.alloc(), &worked(rt.alloc())?)??;
-    assert_eq!(rt; task.base(), Ticks(4_877_000));
-    assert_eq!(rt; task.low(), Ticks(-706_400));
-    assert_eq!(rt; task.high(), Ticks(1_002_000));
-    assert_eq!(rt; task.ideal_low(), Ticks(5_000_000));
-    assert_eq!(rt; task.ideal_high(), Ticks(5_100_000));
-    assert_eq!(rt; task.items().len(), 2);
-    assert_eq!(rt; task.loose().len(), 1);
+    let indices = [
+        task.base(),
+        task.low(),
+        task.high(),
+        task.ideal_low(),
+        task.ideal_high(),
+    ];
+    let due = [4_877_000, -706_400, 1_002_000, 5_000_000, 5_100_000];
+    assert_eq!(rt; indices, due.map(Ticks));
+    assert_eq!(rt; (task.items().len(), task.loose().len()), (2, 1));
     Ok(())
 }
 
 #[test]
 fn the_worked_day_has_its_balance(rt: HostRuntime) -> Result<(), Fail> {
-    let copy = worked(rt.alloc())?.copy(rt.alloc())?;
+    let figures = worked(rt.alloc())?.copy(rt.alloc())?;
     let path = path(0, 3);
-    if !copy.keeps_limits() || path.len() != copy.containers.as_slice().len() {
-        return Err(Fail::from(NoMemory));
+    if !figures.keeps_limits() || path.len() != figures.containers.as_slice().len() {
+        return Err(Fail::new("the figures are within their limits"));
     }
-    let balance = state_of(&daiab(rt.alloc())?, &copy, &path)?;
-    let masses = Masses {
-        ramp: Kg(63_780),
-        zero_fuel: Kg(54_580),
-        take_off: Kg(63_580),
-        landing: Kg(57_580),
-    };
-    let underload = Underload {
-        kg: 7920,
-        limiting: Limiting::ZeroFuel,
-    };
+    let balance = state_of(&daiab(rt.alloc())?, &figures, &path)?;
     let worked = Balance {
-        masses,
-        underload,
+        masses: Masses {
+            ramp: Kg(63_780),
+            zero_fuel: Kg(54_580),
+            take_off: Kg(63_580),
+            landing: Kg(57_580),
+        },
+        underload: Underload {
+            kg: 7920,
+            limiting: Limiting::ZeroFuel,
+        },
         zero_fuel: Ticks(5_166_000),
         take_off: Ticks(5_045_000),
         landing: Ticks(5_165_000),
@@ -166,102 +155,22 @@ fn the_worked_day_has_its_balance(rt: HostRuntime) -> Result<(), Fail> {
 }
 
 #[test]
-fn fuel_beyond_the_table_is_out(rt: HostRuntime) -> Result<(), Fail> {
-    let mut figures = worked(rt.alloc())?;
-    figures.fuel.take_off = Kg(20_001);
-    let out = TrimFault::FuelOut(Kg(20_001));
-    assert!(rt; has_fault(rt.alloc(), &figures, out)?);
-    assert_eq!(rt; rules(rt.alloc(), &figures, 0, 3)?.err(), Some(out));
+fn figures_that_leave_no_task_are_refused(rt: HostRuntime) -> Result<(), Fail> {
+    assert_eq!(rt; first_other_fault(rt.alloc(), FAULTS)?, None);
     Ok(())
 }
 
 #[test]
-fn a_zone_has_too_few_seats(rt: HostRuntime) -> Result<(), Fail> {
-    let mut figures = worked(rt.alloc())?;
-    figures.cabin = cabin(rt.alloc(), zone(57, 4, 2), zone(70, 6, 1))?;
-    let full = TrimFault::Pay(PayFault::ZoneFull(1, 60));
-    assert!(rt; has_fault(rt.alloc(), &figures, full)?);
+fn fuel_beyond_the_table_breaks_no_rule(rt: HostRuntime) -> Result<(), Fail> {
+    let figures = figures_with(rt.alloc(), b"|fuel 200 9000|fuel 200 20001")?;
+    let rules = rules(rt.alloc(), &figures, 0, 3)?;
+    assert_eq!(rt; rules.err(), Some(TrimFault::FuelOut(Kg(20_001))));
     Ok(())
 }
 
 #[test]
-fn loose_loads_need_a_bulk_position(rt: HostRuntime) -> Result<(), Fail> {
-    let mut figures = worked(rt.alloc())?;
-    let mut loads = Vec::new(rt.alloc());
-    loads.push(loose(b"51", 19_880, 8)?)?;
-    loads.push(loose(b"42", 100, 0)?)?;
-    figures.loose = LooseList::from(loads);
-    assert!(rt; has_fault(rt.alloc(), &figures, TrimFault::LooseName(1))?);
-    Ok(())
-}
-
-#[test]
-fn an_envelope_may_end_below_the_mass(rt: HostRuntime) -> Result<(), Fail> {
-    let mut figures = worked(rt.alloc())?;
-    figures.dry.mass = Kg(52_421);
-    assert!(rt; has_fault(rt.alloc(), &figures, TrimFault::NoWindow(1))?);
-    figures.dry.mass = Kg(52_420);
-    figures.fuel.take_off = Kg(10_001);
-    assert!(rt; has_fault(rt.alloc(), &figures, TrimFault::NoWindow(2))?);
-    figures.fuel.take_off = Kg(10_000);
-    figures.fuel.trip = Kg(4999);
-    assert!(rt; has_fault(rt.alloc(), &figures, TrimFault::NoWindow(3))?);
-    Ok(())
-}
-
-#[test]
-fn a_container_is_offered_once(rt: HostRuntime) -> Result<(), Fail> {
-    let mut figures = worked(rt.alloc())?;
-    let mut items = Vec::new(rt.alloc());
-    items.push(item(b"AKE10001XX", 1000)?)?;
-    items.push(item(b"AKE10001XX", 800)?)?;
-    figures.containers = Items::from(items);
-    let twice = TrimFault::Task(TaskFault::DuplicateId(1));
-    assert!(rt; has_fault(rt.alloc(), &figures, twice)?);
-    Ok(())
-}
-
-#[test]
-fn each_mass_rule_is_broken_alone(rt: HostRuntime) -> Result<(), Fail> {
-    let mut figures = worked(rt.alloc())?;
-    figures.fuel.taxi = Kg(10_321);
-    assert!(rt; breaks_alone(rt.alloc(), &figures, Rule::Ramp)?);
-    let mut figures = worked(rt.alloc())?;
-    figures.dry.mass = Kg(49_921);
-    assert!(rt; breaks_alone(rt.alloc(), &figures, Rule::ZeroFuel)?);
-    let mut figures = worked(rt.alloc())?;
-    figures.regulated.take_off = Kg(63_579);
-    assert!(rt; breaks_alone(rt.alloc(), &figures, Rule::TakeOff)?);
-    let mut figures = worked(rt.alloc())?;
-    figures.regulated.landing = Kg(57_579);
-    assert!(rt; breaks_alone(rt.alloc(), &figures, Rule::Landing)?);
-    Ok(())
-}
-
-#[test]
-fn either_regulated_mass_may_be_too_high(rt: HostRuntime) -> Result<(), Fail> {
-    let mut figures = worked(rt.alloc())?;
-    figures.regulated.take_off = Kg(73_501);
-    assert!(rt; breaks_alone(rt.alloc(), &figures, Rule::Regulated)?);
-    let mut figures = worked(rt.alloc())?;
-    figures.regulated.landing = Kg(66_001);
-    assert!(rt; breaks_alone(rt.alloc(), &figures, Rule::Regulated)?);
-    Ok(())
-}
-
-#[test]
-fn each_envelope_is_left_alone(rt: HostRuntime) -> Result<(), Fail> {
-    let mut figures = worked(rt.alloc())?;
-    figures.dry.index = Ticks(4_100_000);
-    assert!(rt; breaks_alone(rt.alloc(), &figures, Rule::ZeroFuelEnvelope)?);
-    figures.dry.index = Ticks(4_129_000);
-    figures.fuel.take_off = Kg(18_000);
-    figures.fuel.trip = Kg(12_000);
-    assert!(rt; breaks_alone(rt.alloc(), &figures, Rule::TakeOffEnvelope)?);
-    figures.dry.index = Ticks(4_134_000);
-    figures.fuel.take_off = Kg(10_000);
-    figures.fuel.trip = Kg(100);
-    assert!(rt; breaks_alone(rt.alloc(), &figures, Rule::LandingEnvelope)?);
+fn each_rule_is_broken_alone(rt: HostRuntime) -> Result<(), Fail> {
+    assert_eq!(rt; first_other_rule(rt.alloc(), BROKEN_ALONE)?, None);
     Ok(())
 }
 
@@ -276,7 +185,6 @@ fn broken_rules_are_listed_in_order(rt: HostRuntime) -> Result<(), Fail> {
         [Rule::ZeroFuelEnvelope, Rule::Hold].as_slice()
     );
     assert_eq!(rt; rules(rt.alloc(), &figures, 0, 3)??.len(), 0);
-    assert_eq!(rt; Rule::ZeroFuelEnvelope.text(), "ZERO FUEL ENVELOPE");
     assert_eq!(rt; Rule::Lateral.text(), "LATERAL");
     Ok(())
 }
@@ -290,15 +198,22 @@ fn admits(task: &Task, path: &Path) -> bool {
     is_sound(task, numbers) && is_in_window(task, hold_index_of(task, numbers))
 }
 
-#[test]
-fn the_task_admits_the_paths_that_break_no_rule(rt: HostRuntime) -> Result<(), Fail> {
-    let figures = worked(rt.alloc())?;
-    let task = task(rt.alloc(), &figures)??;
-    for first in 0..6 {
-        for second in 0..6 {
-            let rules = rules(rt.alloc(), &figures, first, second)??;
-            assert_eq!(rt; rules.is_empty(), admits(&task, &path(first, second)));
+/// The first two positions of which the task and the rules say different things.
+fn first_difference(alloc: Global) -> Result<Option<(u8, u8)>, Fail> {
+    let figures = worked(alloc)?;
+    let task = task(alloc, &figures)??;
+    for number in 0..36_u8 {
+        let (first, second) = (number / 6, number % 6);
+        let rules = rules(alloc, &figures, first, second)??;
+        if rules.is_empty() != admits(&task, &path(first, second)) {
+            return Ok(Some((first, second)));
         }
     }
+    Ok(None)
+}
+
+#[test]
+fn the_task_admits_the_paths_that_break_no_rule(rt: HostRuntime) -> Result<(), Fail> {
+    assert_eq!(rt; first_difference(rt.alloc())?, None);
     Ok(())
 }

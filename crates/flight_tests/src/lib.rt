@@ -7,10 +7,14 @@ mod aircraft;
 #[cfg(test)]
 mod balance;
 #[cfg(test)]
+mod fleets;
+#[cfg(test)]
 mod late_changes;
 #[cfg(test)]
 mod rows;
 #[cfg(test)]
 mod states;
+#[cfg(test)]
+mod tables;
 #[cfg(test)]
 mod worked_day;

@@ -1,5 +1,5 @@
 // Certificates of small tasks: the worked ones, and many beside a plain program of what makes the first reason.
-use crate::small_tasks::{Edit, task_with};
+use crate::small_tasks::{Edit, task_of_row, task_with};
 use cert_checker::{NoPlan, Proven, Reject, check};
 use certificate::{Certificate, Claim};
 use hold_limits::{Path, Task, hold_index_of, is_in_window, is_sound, outcome};
@@ -9,24 +9,15 @@ use std::test::Fail;
 
 const NARROW: Edit = ("-100.00000 100.00000", "0.00000 0.00000");
 
-/// The worked task, one of a window of one index, two twins, an excluding pair, equal distances, one container,
-/// none, and loose loads over a limit.
-const SMALL_TASKS: &[&[Edit]] = &[
-    &[],
-    &[NARROW],
-    &[("item AKE10002XX 800", "item AKE10002XX 1000")],
-    &[("item AKE10001XX", "exclude 12 41\nitem AKE10001XX")],
-    &[("ideal 50.00000 50.00000", "ideal 0.00000 100.00000")],
-    &[(
-        "item AKE10001XX 1000\nitem AKE10002XX 800",
-        "item AKE10001XX 700",
-    )],
-    &[("item AKE10001XX 1000\nitem AKE10002XX 800\n", "")],
-    &[
-        ("item AKE10001XX", "combined 99 11 51\nitem AKE10001XX"),
-        ("base", "loose 51 100\nbase"),
-    ],
-];
+/// Small tasks, a row of edits for each, as those of the search.
+const SMALL_TASKS: &[u8] = b"the worked task
+a window of one index|-100.00000 100.00000|0.00000 0.00000
+two twins|item AKE10002XX 800|item AKE10002XX 1000
+an excluding pair|item AKE10001XX|exclude 12 41~item AKE10001XX
+equal distances|ideal 50.00000 50.00000|ideal 0.00000 100.00000
+one container|item AKE10001XX 1000~item AKE10002XX 800|item AKE10001XX 700
+no container|item AKE10001XX 1000~item AKE10002XX 800~|
+loose loads over a limit|item AKE10001XX|combined 99 11 51~item AKE10001XX|base|loose 51 100~base";
 
 // The cuts that are spelled so: each is its numbers, and a 9 after them.
 fn cuts_of(alloc: Global, spelled: &[u8]) -> Result<Vec<Path>, Fail> {
@@ -294,16 +285,15 @@ fn agreed(task: &Task, prefixes: &[Vec<u8>], certificate: &Certificate) -> Resul
 // The numbers of the reasons against certificates with this claim, these cuts, and the numbers 0 to 6.
 fn agree_on(
     alloc: Global,
-    edits: &[Edit],
+    task: &Task,
     claim: Option<&[u8]>,
     cuts: &[u8],
 ) -> Result<Vec<u8>, Fail> {
-    let task = task_with(alloc, edits)?;
     let prefixes = all_prefixes(alloc, task.items().len().min(2))?;
     let mut numbers = Vec::new(alloc);
     for expanded in 0..7 {
         let certificate = certificate(alloc, claim, cuts, expanded)?;
-        numbers.push(agreed(&task, prefixes.as_slice(), &certificate)?)?;
+        numbers.push(agreed(task, prefixes.as_slice(), &certificate)?)?;
     }
     Ok(numbers)
 }
@@ -340,10 +330,11 @@ const CUTS: [&[u8]; 14] = [
 // The numbers of the reasons against many certificates of the small tasks.
 fn all_numbers(alloc: Global) -> Result<Vec<u8>, Fail> {
     let mut all = Vec::new(alloc);
-    for edits in SMALL_TASKS {
+    for row in SMALL_TASKS.split(|byte| *byte == b'\n') {
+        let task = task_of_row(alloc, row)?;
         for claim in CLAIMS {
             for cuts in CUTS {
-                for number in agree_on(alloc, edits, claim, cuts)? {
+                for number in agree_on(alloc, &task, claim, cuts)? {
                     all.push(number)?;
                 }
             }

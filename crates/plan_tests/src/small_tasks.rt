@@ -2,6 +2,7 @@
 use hold_limits::Task;
 use problem_text::read_task;
 use std::alloc::Global;
+use std::str;
 use std::test::Fail;
 
 const WORKED: &str = "TASK 1
@@ -31,6 +32,26 @@ pub fn task_from(alloc: Global, text: &str, edits: &[Edit]) -> Result<Task, Fail
     let mut text = String::from_str(alloc, text)?;
     for (old, new) in edits {
         text = text.replace(alloc, *old, new)?;
+    }
+    Ok(read_task(alloc, text.as_bytes())?)
+}
+
+/// The field at this place of a row; none behind the last.
+fn field(alloc: Global, row: &[u8], place: usize) -> Result<Option<String>, Fail> {
+    let Some(bytes) = row.split(|byte| *byte == b'|').nth(place) else {
+        return Ok(None);
+    };
+    let text = str::from_utf8(bytes).map_err(|_| Fail::new("a field is a text"))?;
+    Ok(Some(String::from_str(alloc, text)?.replace(alloc, "~", "\n")?))
+}
+
+/// The worked task with the edits of a row: at most three, behind its first field.
+pub fn task_of_row(alloc: Global, row: &[u8]) -> Result<Task, Fail> {
+    let mut text = String::from_str(alloc, WORKED)?;
+    for place in [1, 3, 5] {
+        if let (Some(old), Some(new)) = (field(alloc, row, place)?, field(alloc, row, place + 1)?) {
+            text = text.replace(alloc, old.as_str(), new.as_str())?;
+        }
     }
     Ok(read_task(alloc, text.as_bytes())?)
 }

@@ -2,215 +2,52 @@
 use http_wire::{Heard, Refusal, Wire, WireFault, answer};
 use load_io::MemoryLink;
 use std::alloc::Global;
+use std::str;
 use std::test::Fail;
 
-/// An input: a text, another so many times, and a third. Then what is heard: a line for each request, with its
-/// method, its target, its body or its body's length, and whether it is a last one; then a line for the end.
-type Case = (
-    &'static str,
-    (&'static str, usize),
-    &'static str,
-    &'static str,
-);
+/// Requests that are heard. The rows end with a `#`, and have an input and what is heard of it: a line for each request, with
+/// its method, its target, its body or its body's length, and whether it is a last one; then a line for the end. `<3 ab>`
+/// stands for `ababab`.
+const REQUESTS: &[u8] = b"\
+|end#\
+GET / HTTP/1.1\r\n\r\n|GET / \nend#\
+GET / HTTP/1.1\n\n<3 \r\n>GET /a HTTP/1.1\n\r\n|GET / \nGET /a \nend#\
+POST /a HTTP/1.1\r\ncontent-LENGTH: 000000003\r\n\r\nabcGET /b HTTP/1.1\r\n\r\n|POST /a abc\nGET /b \nend#\
+PUT / HTTP/1.1\r\nContent-Length: 18\r\n\r\nGET / HTTP/1.1\r\n\r\n|PUT / GET / HTTP/1.1\r\n\r\n\nend#\
+GET / HTTP/1.1\r\nConnection: CLOSE\r\n\r\nGET|GET / last\n#\
+GET / HTTP/1.1\r\nconnection:close \r\n\r\n|GET / last\n#\
+GET / HTTP/1.1\r\nConnection: keep-alive\r\nX: close\r\n\r\n|GET / \nend#\
+GET / HTTP/1.0\r\n\r\nGET|GET / last\n#\
+GET / HTTP/1.1\r\nX: <8169 a>\r\n\r\n|GET / \nend#\
+GET / HTTP/1.1\r\n<64 X: a\r\n>\r\n|GET / \nend#\
+PUT / HTTP/1.1\r\nContent-Length: 16384\r\n\r\n<16384 a>|PUT / 16384\nend#\
+PUT / HTTP/1.1\r\nContent-Length: 0\r\n\r\n<2 GET / HTTP/1.1\r\n\r\n>|PUT / \nGET / \nGET / \nend";
 
-/// Requests that are heard.
-const REQUESTS: [Case; 13] = [
-    ("", ("", 0), "", "end"),
-    ("GET / HTTP/1.1\r\n\r\n", ("", 0), "", "GET / \nend"),
-    (
-        "GET / HTTP/1.1\n\n",
-        ("\r\n", 3),
-        "GET /a HTTP/1.1\n\r\n",
-        "GET / \nGET /a \nend",
-    ),
-    (
-        "POST /a HTTP/1.1\r\ncontent-LENGTH: 000000003\r\n\r\nabcGET /b HTTP/1.1\r\n\r\n",
-        ("", 0),
-        "",
-        "POST /a abc\nGET /b \nend",
-    ),
-    (
-        "PUT / HTTP/1.1\r\nContent-Length: 18\r\n\r\nGET / HTTP/1.1\r\n\r\n",
-        ("", 0),
-        "",
-        "PUT / GET / HTTP/1.1\r\n\r\n\nend",
-    ),
-    (
-        "GET / HTTP/1.1\r\nConnection: CLOSE\r\n\r\nGET",
-        ("", 0),
-        "",
-        "GET / last\n",
-    ),
-    (
-        "GET / HTTP/1.1\r\nconnection:close \r\n\r\n",
-        ("", 0),
-        "",
-        "GET / last\n",
-    ),
-    (
-        "GET / HTTP/1.1\r\nConnection: keep-alive\r\nX: close\r\n\r\n",
-        ("", 0),
-        "",
-        "GET / \nend",
-    ),
-    ("GET / HTTP/1.0\r\n\r\nGET", ("", 0), "", "GET / last\n"),
-    (
-        "GET / HTTP/1.1\r\nX: ",
-        ("a", 8169),
-        "\r\n\r\n",
-        "GET / \nend",
-    ),
-    (
-        "GET / HTTP/1.1\r\n",
-        ("X: a\r\n", 64),
-        "\r\n",
-        "GET / \nend",
-    ),
-    (
-        "PUT / HTTP/1.1\r\nContent-Length: 16384\r\n\r\n",
-        ("a", 16384),
-        "",
-        "PUT / 16384\nend",
-    ),
-    (
-        "PUT / HTTP/1.1\r\nContent-Length: 0\r\n\r\n",
-        ("GET / HTTP/1.1\r\n\r\n", 2),
-        "",
-        "PUT / \nGET / \nGET / \nend",
-    ),
-];
-
-/// Inputs that are refused.
-const REFUSALS: [Case; 23] = [
-    ("\r\n", ("\r\n", 2), "", "{\"error\":\"head\"}"),
-    ("GET\r\n\r\n", ("", 0), "", "{\"error\":\"head\"}"),
-    (
-        "GET / HTTP/2.0\r\n\r\n",
-        ("", 0),
-        "",
-        "{\"error\":\"head\"}",
-    ),
-    (
-        "GET / HTTP/1.1\r\nX y: a\r\n\r\n",
-        ("", 0),
-        "",
-        "{\"error\":\"head\"}",
-    ),
-    (
-        "GET / HTTP/1.1\r\nX: a\r\n",
-        ("", 0),
-        "",
-        "{\"error\":\"head\"}",
-    ),
-    (
-        "GET / HTTP/1.1\r\n\r\nGET / HT",
-        ("", 0),
-        "",
-        "GET / \n{\"error\":\"head\"}",
-    ),
-    (
-        "GET / HTTP/1.1\r\nX: ",
-        ("a", 8170),
-        "\r\n\r\n",
-        "{\"error\":\"head too long\"}",
-    ),
-    (
-        "GET / HTTP/1.1\r\nX: ",
-        ("a", 9000),
-        "",
-        "{\"error\":\"head too long\"}",
-    ),
-    (
-        "GET / HTTP/1.1\r\n",
-        ("X: a\r\n", 65),
-        "\r\n",
-        "{\"error\":\"head too long\"}",
-    ),
-    (
-        "GET / HTTP/1.1\r\n",
-        ("X: a\r\n", 66),
-        "",
-        "{\"error\":\"head too long\"}",
-    ),
-    (
-        "PUT / HTTP/1.1\r\ntransfer-encoding: chunked\r\n\r\n",
-        ("", 0),
-        "0\r\n\r\n",
-        "{\"error\":\"transfer coding\"}",
-    ),
-    (
-        "PUT / HTTP/1.1\r\nContent-Length: +5\r\nTransfer-Encoding: x\r\n\r\n",
-        ("", 0),
-        "",
-        "{\"error\":\"transfer coding\"}",
-    ),
-    (
-        "PUT / HTTP/1.1\r\nContent-Length: 1\r\nContent-Length: 1\r\n\r\na",
-        ("", 0),
-        "",
-        "{\"error\":\"length\"}",
-    ),
-    (
-        "PUT / HTTP/1.1\r\nContent-Length: +5\r\n\r\nabcde",
-        ("", 0),
-        "",
-        "{\"error\":\"length\"}",
-    ),
-    (
-        "PUT / HTTP/1.1\r\nContent-Length: \r\n\r\n",
-        ("", 0),
-        "",
-        "{\"error\":\"length\"}",
-    ),
-    (
-        "PUT / HTTP/1.1\r\nContent-Length: 5 5\r\n\r\nabcde",
-        ("", 0),
-        "",
-        "{\"error\":\"length\"}",
-    ),
-    (
-        "PUT / HTTP/1.1\r\nContent-Length: 0000000005\r\n\r\nabcde",
-        ("", 0),
-        "",
-        "{\"error\":\"length\"}",
-    ),
-    (
-        "PUT / HTTP/1.1\r\nContent-Length: 16385\r\n\r\n",
-        ("a", 16385),
-        "",
-        "{\"error\":\"too long\"}",
-    ),
-    (
-        "PUT / HTTP/1.1\r\nContent-Length: 999999999\r\n\r\n",
-        ("", 0),
-        "",
-        "{\"error\":\"too long\"}",
-    ),
-    (
-        "PUT / HTTP/1.1\r\nContent-Length: 10\r\n\r\nabc",
-        ("", 0),
-        "",
-        "{\"error\":\"cut\"}",
-    ),
-    (
-        "PUT / HTTP/1.1\r\nContent-Length: 1\r\n\r\n",
-        ("", 0),
-        "",
-        "{\"error\":\"cut\"}",
-    ),
-    (
-        "PUT / HTTP/1.1\r\nContent-Length: 16384\r\n\r\n",
-        ("a", 16383),
-        "",
-        "{\"error\":\"cut\"}",
-    ),
-    (
-        "GET / HTTP/1.1\r\n\r\nPUT / HTTP/1.1\r\nContent-Length: 2\r\n\r\na",
-        ("", 0),
-        "",
-        "GET / \n{\"error\":\"cut\"}",
-    ),
-];
+/// Inputs that are refused, as above.
+const REFUSALS: &[u8] = b"\
+\r\n<2 \r\n>|{\"error\":\"head\"}#\
+GET\r\n\r\n|{\"error\":\"head\"}#\
+GET / HTTP/2.0\r\n\r\n|{\"error\":\"head\"}#\
+GET / HTTP/1.1\r\nX y: a\r\n\r\n|{\"error\":\"head\"}#\
+GET / HTTP/1.1\r\nX: a\r\n|{\"error\":\"head\"}#\
+GET / HTTP/1.1\r\n\r\nGET / HT|GET / \n{\"error\":\"head\"}#\
+GET / HTTP/1.1\r\nX: <8170 a>\r\n\r\n|{\"error\":\"head too long\"}#\
+GET / HTTP/1.1\r\nX: <9000 a>|{\"error\":\"head too long\"}#\
+GET / HTTP/1.1\r\n<65 X: a\r\n>\r\n|{\"error\":\"head too long\"}#\
+GET / HTTP/1.1\r\n<66 X: a\r\n>|{\"error\":\"head too long\"}#\
+PUT / HTTP/1.1\r\ntransfer-encoding: chunked\r\n\r\n0\r\n\r\n|{\"error\":\"transfer coding\"}#\
+PUT / HTTP/1.1\r\nContent-Length: +5\r\nTransfer-Encoding: x\r\n\r\n|{\"error\":\"transfer coding\"}#\
+PUT / HTTP/1.1\r\nContent-Length: 1\r\nContent-Length: 1\r\n\r\na|{\"error\":\"length\"}#\
+PUT / HTTP/1.1\r\nContent-Length: +5\r\n\r\nabcde|{\"error\":\"length\"}#\
+PUT / HTTP/1.1\r\nContent-Length: \r\n\r\n|{\"error\":\"length\"}#\
+PUT / HTTP/1.1\r\nContent-Length: 5 5\r\n\r\nabcde|{\"error\":\"length\"}#\
+PUT / HTTP/1.1\r\nContent-Length: 0000000005\r\n\r\nabcde|{\"error\":\"length\"}#\
+PUT / HTTP/1.1\r\nContent-Length: 16385\r\n\r\n<16385 a>|{\"error\":\"too long\"}#\
+PUT / HTTP/1.1\r\nContent-Length: 999999999\r\n\r\n|{\"error\":\"too long\"}#\
+PUT / HTTP/1.1\r\nContent-Length: 10\r\n\r\nabc|{\"error\":\"cut\"}#\
+PUT / HTTP/1.1\r\nContent-Length: 1\r\n\r\n|{\"error\":\"cut\"}#\
+PUT / HTTP/1.1\r\nContent-Length: 16384\r\n\r\n<16383 a>|{\"error\":\"cut\"}#\
+GET / HTTP/1.1\r\n\r\nPUT / HTTP/1.1\r\nContent-Length: 2\r\n\r\na|GET / \n{\"error\":\"cut\"}";
 
 /// A request of a stream: its head, its body, and what is heard of it.
 type Part = (&'static str, &'static str, &'static str);
@@ -299,27 +136,62 @@ fn hear(
     Ok(text)
 }
 
-/// The input of a case.
-fn input_of(alloc: Global, case: &Case) -> Result<Vec<u8>, Fail> {
-    let (front, (filler, count), back, _) = *case;
-    let mut input = Vec::from_slice(alloc, front.as_bytes())?;
-    for _ in 0..count {
-        input.extend_from_slice(filler.as_bytes())?;
+/// The number that the digits spell.
+fn number_in(digits: &[u8]) -> Result<usize, Fail> {
+    let text = str::from_utf8(digits).map_err(|_| Fail::new("digits"))?;
+    text.parse().map_err(|_| Fail::new("a number"))
+}
+
+/// Appends a text, or in its place another so many times, as in `3 ab>`.
+fn push_piece(input: &mut Vec<u8>, piece: &[u8]) -> Result<(), Fail> {
+    let Some(end) = piece.iter().position(|byte| *byte == b'>') else {
+        input.extend_from_slice(piece)?;
+        return Ok(());
+    };
+    let (repeated, rest) = piece.split_at(end);
+    let space = repeated
+        .iter()
+        .position(|byte| *byte == b' ')
+        .ok_or("a space")?;
+    let (digits, filler) = repeated.split_at(space);
+    for _ in 0..number_in(digits)? {
+        input.extend_from_slice(filler.get(1..).ok_or("a filler")?)?;
     }
-    input.extend_from_slice(back.as_bytes())?;
+    input.extend_from_slice(rest.get(1..).ok_or("a rest")?)?;
+    Ok(())
+}
+
+/// The input of a row.
+fn input_of(alloc: Global, row: &[u8]) -> Result<Vec<u8>, Fail> {
+    let text = row.split(|byte| *byte == b'|').next().ok_or("an input")?;
+    let mut input = Vec::new(alloc);
+    for piece in text.split(|byte| *byte == b'<') {
+        push_piece(&mut input, piece)?;
+    }
     Ok(input)
 }
 
-/// The place of the first case in which something else is heard, at some length of the reads.
-fn first_wrong(alloc: Global, cases: &[Case], pieces: &[usize]) -> Result<Option<usize>, Fail> {
+/// Whether what is due is heard of the input of a row, at each length of the reads.
+fn is_heard(alloc: Global, wire: &mut Wire, row: &[u8], pieces: &[usize]) -> Result<bool, Fail> {
+    let input = input_of(alloc, row)?;
+    let due = row
+        .split(|byte| *byte == b'|')
+        .nth(1)
+        .ok_or("what is heard")?;
+    for most in pieces {
+        if hear(alloc, wire, &input, *most, 0)?.as_slice() != due {
+            return Ok(false);
+        }
+    }
+    Ok(true)
+}
+
+/// The place of the first row of which something else is heard.
+fn first_wrong(alloc: Global, rows: &[u8]) -> Result<Option<usize>, Fail> {
     let mut wire = Wire::new(alloc)?;
-    for (place, case) in cases.iter().enumerate() {
-        let input = input_of(alloc, case)?;
-        for most in pieces {
-            let text = hear(alloc, &mut wire, &input, *most, 0)?;
-            if text.as_slice() != case.3.as_bytes() {
-                return Ok(Some(place));
-            }
+    for (place, row) in rows.split(|byte| *byte == b'#').enumerate() {
+        if !is_heard(alloc, &mut wire, row, &PIECES)? {
+            return Ok(Some(place));
         }
     }
     Ok(None)
@@ -327,8 +199,8 @@ fn first_wrong(alloc: Global, cases: &[Case], pieces: &[usize]) -> Result<Option
 
 #[test]
 fn an_input_says_the_same_however_it_is_cut(rt: HostRuntime) -> Result<(), Fail> {
-    assert_eq!(rt; first_wrong(rt.alloc(), &REQUESTS, &PIECES)?, None);
-    assert_eq!(rt; first_wrong(rt.alloc(), &REFUSALS, &PIECES)?, None);
+    assert_eq!(rt; first_wrong(rt.alloc(), REQUESTS)?, None);
+    assert_eq!(rt; first_wrong(rt.alloc(), REFUSALS)?, None);
     Ok(())
 }
 
@@ -419,60 +291,40 @@ fn whole_requests_are_heard_before_an_end_or_a_break(rt: HostRuntime) -> Result<
     Ok(())
 }
 
-/// Each refusal with its answer.
-const REFUSED: [(Refusal, &str); 6] = [
-    (
-        Refusal::BadHead,
-        "HTTP/1.1 400 Bad Request\r\nContent-Type: application/json\r\nContent-Length: 16\r\nConnection: close\r\n\r\n{\"error\":\"head\"}",
-    ),
-    (
-        Refusal::HeadTooLong,
-        "HTTP/1.1 431 Request Header Fields Too Large\r\nContent-Type: application/json\r\nContent-Length: 25\r\nConnection: close\r\n\r\n{\"error\":\"head too long\"}",
-    ),
-    (
-        Refusal::TransferCoding,
-        "HTTP/1.1 501 Not Implemented\r\nContent-Type: application/json\r\nContent-Length: 27\r\nConnection: close\r\n\r\n{\"error\":\"transfer coding\"}",
-    ),
-    (
-        Refusal::BadLength,
-        "HTTP/1.1 400 Bad Request\r\nContent-Type: application/json\r\nContent-Length: 18\r\nConnection: close\r\n\r\n{\"error\":\"length\"}",
-    ),
-    (
-        Refusal::BodyTooLong,
-        "HTTP/1.1 413 Payload Too Large\r\nContent-Type: application/json\r\nContent-Length: 20\r\nConnection: close\r\n\r\n{\"error\":\"too long\"}",
-    ),
-    (
-        Refusal::BodyCut,
-        "HTTP/1.1 400 Bad Request\r\nContent-Type: application/json\r\nContent-Length: 15\r\nConnection: close\r\n\r\n{\"error\":\"cut\"}",
-    ),
+/// All refusals.
+const REFUSED: [Refusal; 6] = [
+    Refusal::BadHead,
+    Refusal::HeadTooLong,
+    Refusal::TransferCoding,
+    Refusal::BadLength,
+    Refusal::BodyTooLong,
+    Refusal::BodyCut,
 ];
 
-/// The first refusal that is answered otherwise.
-fn first_wrong_answer(
-    alloc: Global,
-    answers: &[(Refusal, &'static str)],
-) -> Result<Option<Refusal>, Fail> {
-    for (reason, text) in answers {
-        let mut link = MemoryLink::new(
-            alloc,
-            Vec::new(alloc),
-            1,
-            500,
-            Vec::new(alloc),
-            Vec::new(alloc),
-        )?;
-        let whole = answer(&mut link, reason.status(), true, true, reason.body()).is_ok();
-        if !whole || link.written() != text.as_bytes() {
-            return Ok(Some(*reason));
-        }
+/// The answers to them, one after another.
+const ANSWERED: &[u8] = b"\
+HTTP/1.1 400 Bad Request\r\nContent-Type: application/json\r\nContent-Length: 16\r\nConnection: close\r\n\r\n{\"error\":\"head\"}\
+HTTP/1.1 431 Request Header Fields Too Large\r\nContent-Type: application/json\r\nContent-Length: 25\r\nConnection: close\r\n\r\n{\"error\":\"head too long\"}\
+HTTP/1.1 501 Not Implemented\r\nContent-Type: application/json\r\nContent-Length: 27\r\nConnection: close\r\n\r\n{\"error\":\"transfer coding\"}\
+HTTP/1.1 400 Bad Request\r\nContent-Type: application/json\r\nContent-Length: 18\r\nConnection: close\r\n\r\n{\"error\":\"length\"}\
+HTTP/1.1 413 Payload Too Large\r\nContent-Type: application/json\r\nContent-Length: 20\r\nConnection: close\r\n\r\n{\"error\":\"too long\"}\
+HTTP/1.1 400 Bad Request\r\nContent-Type: application/json\r\nContent-Length: 15\r\nConnection: close\r\n\r\n{\"error\":\"cut\"}";
+
+/// What all refusals are answered.
+fn answers_to(alloc: Global, refusals: &[Refusal]) -> Result<Vec<u8>, Fail> {
+    let (input, none) = (Vec::new(alloc), Vec::new(alloc));
+    let mut link = MemoryLink::new(alloc, input, 1, 2000, none, Vec::new(alloc))?;
+    for reason in refusals {
+        let sent = answer(&mut link, reason.status(), true, true, reason.body());
+        sent.map_err(|_| Fail::new("the link has room"))?;
     }
-    Ok(None)
+    Ok(link.written().to_vec(alloc)?)
 }
 
 #[test]
 fn answers_have_what_they_are_given(rt: HostRuntime) -> Result<(), Fail> {
     let alloc = rt.alloc();
-    assert_eq!(rt; first_wrong_answer(alloc, &REFUSED)?, None);
+    assert_eq!(rt; answers_to(alloc, &REFUSED)?.as_slice(), ANSWERED);
     let mut link = MemoryLink::new(
         alloc,
         Vec::new(alloc),
