@@ -3,9 +3,13 @@
 # in the history. The program of crates/office_bench, proved and built, starts an office on kept flights, fills the history, and then
 # makes rounds of requests.
 #
-# A run with more rounds takes what one without rounds takes for its start and end, and its rounds. So the difference of two
-# runs is what the rounds take, and the difference of a kind and the one before it is what the last request of a round takes. The
-# program's own part is in it: the key's text, and with a plan the check of its certificate.
+# A run with more rounds takes what one with fewer takes, and the rounds between. So the difference of two runs is what these
+# rounds take, and the difference of a kind and the one before it is what the last request of a round takes. The program's own
+# part is in it: the key's text, and with a plan the check of its certificate.
+#
+# A departure is taken from the 21st to the 100th where there are as many flights: in one of the first the C library puts
+# together the memory that the start gave back, which takes the longer the more flights there are. The others are about the
+# first flight, in which a late change has room for 20 passengers.
 set -eu
 
 top=$(dirname "$(dirname "$(readlink -f "$0")")")
@@ -34,30 +38,35 @@ instructions() {
     rm "$said"
 }
 
-# What a round of this kind takes with so many flights and entries.
+# What a round of this kind takes with so many flights and entries, of the rounds behind so many up to so many.
 round() {
-    local start=$4
-    echo $((($(instructions "$1" "$2" "$3" "$rounds") - start) / rounds))
+    local first all
+    first=$(instructions "$1" "$2" "$3" "$4")
+    all=$(instructions "$1" "$2" "$3" "$5")
+    echo $(((all - first) / ($5 - $4)))
 }
 
 printf '%-8s %-8s' flights entries
 printf ' %9s' show set take install release late reopen depart
 printf '\n'
 for flights in 1 100 2000; do
-    rounds=$((flights < 20 ? flights : 20))
+    few=$((flights < 20 ? flights : 20))
+    many=$((flights < 100 ? flights : 100))
+    behind=$((many - few))
+    behind=$((behind < 20 ? behind : 20))
     for entries in 10 2000; do
-        start=$(instructions show "$flights" "$entries" 0)
-        show=$(round show "$flights" "$entries" "$start")
-        set=$(round set "$flights" "$entries" "$start")
-        take=$(round take "$flights" "$entries" "$start")
-        install=$(round install "$flights" "$entries" "$start")
-        release=$(round release "$flights" "$entries" "$start")
-        late=$(round late "$flights" "$entries" "$start")
-        reopen=$(round reopen "$flights" "$entries" "$start")
-        depart=$(round depart "$flights" "$entries" "$start")
+        show=$(round show "$flights" "$entries" 0 "$few")
+        set=$(round set "$flights" "$entries" 0 "$few")
+        take=$(round take "$flights" "$entries" 0 "$few")
+        install=$(round install "$flights" "$entries" 0 "$few")
+        release=$(round release "$flights" "$entries" 0 "$few")
+        late=$(round late "$flights" "$entries" 0 "$few")
+        reopen=$(round reopen "$flights" "$entries" 0 "$few")
+        released=$(round release "$flights" "$entries" "$behind" "$many")
+        departed=$(round depart "$flights" "$entries" "$behind" "$many")
         printf '%-8d %-8d' "$flights" "$entries"
         printf ' %9d' "$show" "$set" $((take - set)) $((install - take)) $((release - install)) $((late - release)) \
-            $((reopen - release)) $((depart - release))
+            $((reopen - release)) $((departed - released))
         printf '\n'
     done
 done
