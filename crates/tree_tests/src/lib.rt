@@ -1,7 +1,9 @@
-//! Tests of the crates of trees: what the search looks up, prices, moves of containers, texts of certificates.
+//! Tests of the crates of trees: choices of positions, what the search looks up, prices, moves of containers, texts of certificates.
 //! They stand apart, since a crate with tests is proved twice.
 #![tactic(auto)]
 
+#[cfg(test)]
+mod choices;
 #[cfg(test)]
 mod near_paths_tests;
 #[cfg(test)]

@@ -1,0 +1,4 @@
+pub mod Narrowed
+pub mod Conflicts
+pub mod Passing
+pub mod Remainders
