@@ -5,7 +5,11 @@
 #[cfg(test)]
 mod choices;
 #[cfg(test)]
+mod choice_prices_tests;
+#[cfg(test)]
 mod near_paths_tests;
+#[cfg(test)]
+mod plain_prices;
 #[cfg(test)]
 mod raised_prices_tests;
 #[cfg(test)]

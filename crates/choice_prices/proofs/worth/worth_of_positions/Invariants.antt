@@ -1,0 +1,12 @@
+use Rattle.std.proofs.Common.{◌≡◌, ◌≤◌, ◌*◌, unsigned_abs, take, pos, ◌*ℤ◌, if◌then◌else◌, [], ◌∷◌}
+use Rattle.desk_base.specs.Lists.{int_sum_by}
+use Rattle.position_set.specs.Sets.{has}
+use Rattle.std.specs.List.{list_any}
+use Rattle.tree_certificate.specs.declared.parts.Price.{Price}
+use Rattle.choice_prices.proofs.worth.worth_of_positions.Given as goal
+
+abbrev pub invariant-loop-price : goal.invariant-loop-price
+invariant-loop-price l = record {
+  value : l.sum ≡ int_sum_by (λ (p : Price). pos p.price *ℤ pos (if list_any (has l.union) (p.of ∷ []) then 1 else 0)) (take l.price-index l.prices);
+  bounded : unsigned_abs l.sum ≤ l.price-index * 10000000000000;
+}

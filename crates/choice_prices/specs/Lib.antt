@@ -1,0 +1,4 @@
+pub mod Listing
+pub mod Pricing
+pub mod Tariffs
+pub mod Ready
