@@ -7,6 +7,8 @@ mod choices;
 #[cfg(test)]
 mod choice_prices_tests;
 #[cfg(test)]
+mod judgements;
+#[cfg(test)]
 mod near_paths_tests;
 #[cfg(test)]
 mod plain_prices;

@@ -1,0 +1,11 @@
+mod FirstPlaces
+mod Readings
+mod Refuting
+mod Neighbours
+mod GoodLaws
+mod OneReason
+mod PlaceLemmas
+mod WalkLemmas
+mod Comparing
+mod TreeSteps
+mod Judging

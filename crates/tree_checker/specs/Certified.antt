@@ -1,0 +1,26 @@
+-- a task with a certificate of trees, as contracts see them, and what the certificate claims
+use Rattle.std.specs.Prelude.{IsSome, IsNone}
+use Rattle.hold_limits.specs.Problem.{Problem}
+use Rattle.certificate.specs.Evidence.{claimed}
+use Rattle.tree_certificate.specs.declared.parts.TreeCertificate.{TreeCertificate}
+use Rattle.tree_certificate.specs.Listed.{listed_trees}
+use Rattle.tree_checker.specs.GoodTrees.{IsGoodTrees}
+
+pub record TreeCertified : Type 0 where
+  pub task : Problem
+  pub certificate : TreeCertificate
+
+abbrev pub tree_certified : Problem → TreeCertificate → TreeCertified
+tree_certified t c = record { task = t; certificate = c }
+
+-- the certificate is good for the task
+abbrev pub IsGoodFor : Problem → TreeCertificate → Type 0
+IsGoodFor t c = IsGoodTrees t (listed_trees c)
+
+-- the certificate claims that a path is the best
+abbrev pub ClaimsPath : TreeCertificate → Type 0
+ClaimsPath c = IsSome (claimed c.claim)
+
+-- the certificate claims that no path is admissible
+abbrev pub ClaimsNone : TreeCertificate → Type 0
+ClaimsNone c = IsNone (claimed c.claim)

@@ -1,0 +1,5 @@
+pub mod TreeReading
+pub mod GoodTrees
+pub mod FirstReason
+pub mod Certified
+pub mod Steps
