@@ -3,9 +3,9 @@
 #![tactic(auto)]
 
 #[cfg(test)]
-mod choices;
-#[cfg(test)]
 mod choice_prices_tests;
+#[cfg(test)]
+mod choices;
 #[cfg(test)]
 mod judgements;
 #[cfg(test)]

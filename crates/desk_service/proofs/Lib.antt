@@ -1,0 +1,9 @@
+pub mod Places
+pub mod Turns
+pub mod Serving
+pub mod Statuses
+pub mod Outcomes
+pub mod Moments
+pub mod KeeperFaults
+pub mod Weights
+pub mod ServiceLaws

@@ -1,0 +1,171 @@
+-- what the calls of one request make of the history
+use Rattle.std.proofs.Common.{◌≡◌, ◌⊎◌, ℕ, true, false, List, [], ◌∷◌, ◌++◌, Option, Result, Ok, Err, refl, sym, ap, ◌∙◌, arith, append-nil, append_assoc, inl, inr}
+use Rattle.hold_limits.specs.Problem.{Problem}
+use Rattle.cert_checker.specs.Certified.{Certified}
+use Rattle.placer.specs.Answers.{IfBest, IsAnswerTo}
+use Rattle.placer.specs.AnswerText.{answer_text}
+use Rattle.placer.specs.declared.answer.Answer.{Answer as Found}
+use Rattle.placer.specs.declared.answer.Answer.TheVariants.{Best}
+use Rattle.flight_history.specs.declared.entry.Entry.{Entry}
+use Rattle.flight_history.specs.declared.reply.Reply.{Reply}
+use Rattle.flight_history.specs.declared.reply.Reply.TheVariants as says
+use Rattle.flight_history.specs.declared.request.Request.{Request}
+use Rattle.flight_history.specs.declared.request.Request.TheVariants.{Take, Install}
+use Rattle.desk_answers.specs.Answers.{IsAnswered, answer_to, answered, error_answer, text_answer}
+use Rattle.desk_answers.specs.declared.answer.Answer.{Answer}
+use Rattle.desk_answers.specs.declared.errors.PlainError.{PlainError}
+use Rattle.desk_answers.specs.declared.errors.PlainError.TheVariants.{Full, Memory}
+use Rattle.desk_requests.specs.declared.asked.Asked.TheVariants as asked
+use Rattle.desk_service.specs.Places.{GoesOn}
+use Rattle.desk_service.specs.Turns.{Setting, Placed, placed, IsMade, Calls}
+use Rattle.desk_service.specs.Exchanges.{IsDue, IsFound, document_of, AnswersTurn, AnswersInstall, AnswersTask, LacksRoom, Answers, AnswersLate}
+use Rattle.desk_service.specs.Service.{Answered, Planned}
+use Rattle.desk_service.proofs.Places.{same_history, goes_on}
+use Rattle.desk_service.proofs.Turns as turns
+use Rattle.desk_service.proofs.Turns.{made_on}
+
+-- an answer that is due, or one that memory was lacking for
+pub is_due : (due : Option Answer) (result : Result Answer PlainError) → IsAnswered due result → IsDue due (answered result)
+is_due due result (inl out) = inl (ap answered out)
+is_due due result (inr is) = inr is
+
+-- what would be an error is not so
+pub not_error : {A : Type 0} → (A → false ≡ true) → A → ⊥
+not_error h a = let e = h a in grind arith
+
+module _ (s : Setting) (desk : ℕ) (full full' : Type 0) where
+  -- an error before the turn makes no entry
+  pub no_turn : (error : PlainError) (seen seen' : List Entry) → seen' ≡ seen → Answered s desk full full' (Err error) (error_answer error) seen seen'
+  no_turn error seen seen' same = record {
+    entries = [];
+    on = same_history seen seen' same;
+    own = ap (placed desk) same ∙ sym (append-nil (placed desk seen));
+    is = inl (refl, refl);
+    stuck = λ _. (refl, refl);
+  }
+
+  -- a call that is answered makes one entry, and its answer is due to the reply
+  turn_answered : (request : Request) (reply : Reply) (answer : Answer) (seen seen' : List Entry) → (c : Calls s desk request reply seen seen')
+      → IsDue (answer_to (document_of request) reply) answer → AnswersTurn s desk seen' request (turns.made s desk request reply seen seen' c ∷ []) answer
+  turn_answered request reply answer seen seen' c due = record {
+    made = turns.made s desk request reply seen seen' c;
+    reply = reply;
+    turn = turns.call_made s desk request reply seen seen' c;
+    entries_are = refl;
+    due = due;
+  }
+
+  pub one_turn : (request : Request) (reply : Reply) (answer : Answer) (seen seen' : List Entry) → (full → ⊥) → Calls s desk request reply seen seen'
+      → IsDue (answer_to (document_of request) reply) answer → Answered s desk full full' (Ok (asked.Entry request)) answer seen seen'
+  one_turn request reply answer seen seen' free c due = record {
+    entries = turns.made s desk request reply seen seen' c ∷ [];
+    on = turns.call_on s desk request reply seen seen' c;
+    own = turns.call_own s desk request reply seen seen' c;
+    is = inl (turn_answered request reply answer seen seen' c due);
+    stuck = λ f. absurd (free f);
+  }
+
+  pub no_room : (request : Request) (seen seen' : List Entry) → seen' ≡ seen → full' → Answered s desk full full' (Ok (asked.Entry request)) (error_answer Full) seen seen'
+  no_room request seen seen' same f = record {
+    entries = [];
+    on = same_history seen seen' same;
+    own = ap (placed desk) same ∙ sym (append-nil (placed desk seen));
+    is = inr (f, (refl, refl));
+    stuck = λ _. (refl, refl);
+  }
+
+  -- a plan whose task was not given
+  pub no_task : (key : List ℕ) (edition budget : ℕ) (reply : Reply) (answer : Answer) (seen seen' : List Entry) → (full → ⊥) → Calls s desk (Take key edition) reply seen seen'
+      → IsDue (answer_to (document_of (Take key edition)) reply) answer → Answered s desk full full' (Ok (asked.Plan key edition budget)) answer seen seen'
+  no_task key edition budget reply answer seen seen' free c due = record {
+    entries = turns.made s desk (Take key edition) reply seen seen' c ∷ [];
+    on = turns.call_on s desk (Take key edition) reply seen seen' c;
+    own = turns.call_own s desk (Take key edition) reply seen seen' c;
+    is = inl (inl (turn_answered (Take key edition) reply answer seen seen' c due));
+    stuck = λ f. absurd (free f);
+  }
+
+  pub no_room_to_take : (key : List ℕ) (edition budget : ℕ) (seen seen' : List Entry) → seen' ≡ seen → full' → Answered s desk full full' (Ok (asked.Plan key edition budget)) (error_answer Full) seen seen'
+  no_room_to_take key edition budget seen seen' same f = record {
+    entries = [];
+    on = same_history seen seen' same;
+    own = ap (placed desk) same ∙ sym (append-nil (placed desk seen));
+    is = inr (f, (inl refl, refl));
+    stuck = λ _. (inl refl, refl);
+  }
+
+-- What follows the taking of a task -----------------------------------------------------------------
+
+module _ (s : Setting) (desk : ℕ) (full : Type 0) (key : List ℕ) (edition budget : ℕ) (task : Problem) where
+  -- nothing is asked
+  pub memory_out : (seen : List Entry) → Planned s desk full key edition budget task (error_answer Memory) seen seen
+  memory_out seen = record {
+    rest = [];
+    on = same_history seen seen refl;
+    own = sym (append-nil (placed desk seen));
+    is = inl (inl (refl, refl));
+  }
+
+  pub no_plan : (found : Found) (answer : Answer) (seen : List Entry) → IsAnswerTo task budget found → IfBest found (λ _. ⊥) → answer ≡ text_answer (answer_text task found)
+      → Planned s desk full key edition budget task answer seen seen
+  no_plan found answer seen answers none told = record {
+    rest = [];
+    on = same_history seen seen refl;
+    own = sym (append-nil (placed desk seen));
+    is = inl (inr (inl (refl, record { found = found; answers = answers; none = none; told = told })));
+  }
+
+  -- the plan was asked to be installed
+  pub asked_install : (proven : Certified) (reply : Reply) (answer : Answer) (seen seen' : List Entry) → IsFound task budget proven → Calls s desk (Install key edition proven) reply seen seen'
+      → AnswersInstall (text_answer (answer_text task (Best proven))) reply answer → Planned s desk full key edition budget task answer seen seen'
+  asked_install proven reply answer seen seen' found c is =
+      let request = Install key edition proven in
+      record {
+        rest = turns.made s desk request reply seen seen' c ∷ [];
+        on = turns.call_on s desk request reply seen seen' c;
+        own = turns.call_own s desk request reply seen seen' c;
+        is = inl (inr (inr record {
+          proven = proven;
+          found = found;
+          installed = turns.made s desk request reply seen seen' c;
+          reply = reply;
+          turn = turns.call_made s desk request reply seen seen' c;
+          rest_is = refl;
+          answer_is = is;
+        }));
+      }
+
+  pub no_room_to_install : (proven : Certified) (seen seen' : List Entry) → IsFound task budget proven → seen' ≡ seen → full → Planned s desk full key edition budget task (error_answer Full) seen seen'
+  no_room_to_install proven seen seen' found same f = record {
+    rest = [];
+    on = same_history seen seen' same;
+    own = ap (placed desk) same ∙ sym (append-nil (placed desk seen));
+    is = inr (f, ((proven, found), refl, refl));
+  }
+
+-- the answer to a plan whose task was taken
+module _ (s : Setting) (desk : ℕ) (full full' : Type 0) (key : List ℕ) (edition budget : ℕ) (task : Problem) (answer : Answer) (seen mid seen' : List Entry)
+    (c : Calls s desk (Take key edition) (says.Task task) seen mid) where
+  abbrev taken : Placed
+  taken = turns.made s desk (Take key edition) (says.Task task) seen mid c
+
+  stands : GoesOn mid seen' → IsMade s desk seen' (Take key edition) taken (says.Task task)
+  stands g = made_on s desk mid seen' g (Take key edition) taken (says.Task task) (turns.call_made s desk (Take key edition) (says.Task task) seen mid c)
+
+  outcome : (rest : List Placed) → GoesOn mid seen' → AnswersTask s desk seen' key edition budget task rest answer ⊎ (full' × LacksRoom task budget rest answer)
+      → Answers s desk seen' (Ok (asked.Plan key edition budget)) (taken ∷ rest) answer
+      ⊎ (full' × AnswersLate s desk seen' (Ok (asked.Plan key edition budget)) (taken ∷ rest) answer)
+  outcome rest g (inl is) = inl (inr record { taken = taken; task = task; rest = rest; take = stands g; entries_are = refl; planned = is })
+  outcome rest g (inr (f, (found, none, told))) =
+      inr (f, (inr (taken, task, found.0, stands g, found.1, ap (λ (zs : List Placed). taken ∷ zs) none), told))
+
+  pub plan_answered : (full → ⊥) → Planned s desk full' key edition budget task answer mid seen'
+      → Answered s desk full full' (Ok (asked.Plan key edition budget)) answer seen seen'
+  plan_answered free p = record {
+    entries = taken ∷ p.rest;
+    on = goes_on seen mid seen' (turns.call_on s desk (Take key edition) (says.Task task) seen mid c) p.on;
+    own = p.own ∙ (ap (λ (zs : List Placed). zs ++ p.rest) (turns.call_own s desk (Take key edition) (says.Task task) seen mid c)
+        ∙ append_assoc (placed desk seen) (taken ∷ []) p.rest);
+    is = outcome p.rest p.on p.is;
+    stuck = λ f. absurd (free f);
+  }

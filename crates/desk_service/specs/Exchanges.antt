@@ -1,0 +1,159 @@
+-- exchanges: what is asked of a desk, the entries that it makes for it, and what it answers
+use Rattle.std.specs.Prelude.{◌≡◌, ◌⊎◌, ℕ, Bool, true, false, List, [], ◌∷◌, Option, Some, Result, Ok, Err}
+use Rattle.hold_limits.specs.Problem.{Problem}
+use Rattle.cert_checker.specs.Certified.{Certified}
+use Rattle.placer.specs.Answers.{IfBest, IsAnswerTo}
+use Rattle.placer.specs.AnswerText.{answer_text}
+use Rattle.placer.specs.declared.answer.Answer.{Answer as Found}
+use Rattle.placer.specs.declared.answer.Answer.TheVariants.{Best}
+use Rattle.flight_history.specs.declared.entry.Entry.{Entry}
+use Rattle.flight_history.specs.declared.reply.Reply.{Reply}
+use Rattle.flight_history.specs.declared.reply.Reply.TheVariants as says
+use Rattle.flight_history.specs.declared.request.Request.{Request}
+use Rattle.flight_history.specs.declared.request.Request.TheVariants.{Take, Install, Show}
+use Rattle.flight_history.specs.declared.request.What.TheVariants.{Ldm, Cpm}
+use Rattle.http_wire.specs.Requests as http
+use Rattle.desk_answers.specs.Answers.{answer_to, error_answer, text_answer}
+use Rattle.desk_answers.specs.declared.answer.Answer.{Answer}
+use Rattle.desk_answers.specs.declared.answer.Document.{Document}
+use Rattle.desk_answers.specs.declared.answer.Document.TheVariants.{Loadsheet, LoadMessage, ContainerMessage}
+use Rattle.desk_answers.specs.declared.errors.PlainError.{PlainError}
+use Rattle.desk_answers.specs.declared.errors.PlainError.TheVariants.{Full, Memory}
+use Rattle.desk_requests.specs.Asked.{Asks}
+use Rattle.desk_requests.specs.declared.asked.Asked.{Asked}
+use Rattle.desk_requests.specs.declared.asked.Asked.TheVariants as asked
+use Rattle.desk_service.specs.Turns.{Setting, Placed, IsMade}
+
+-- Answers to one turn --------------------------------------------------------------------------------
+
+-- the document that a request asks for; a release issues the loadsheet
+abbrev pub document_of : Request → Document
+document_of (Show key Ldm) = LoadMessage
+document_of (Show key Cpm) = ContainerMessage
+document_of _ = Loadsheet
+
+-- the answer is the one that is due, or memory ran out
+abbrev pub IsDue : Option Answer → Answer → Type 0
+IsDue due answer = (answer ≡ error_answer Memory) ⊎ (due ≡ Some answer)
+
+-- a request that makes one entry: the answer is that to the reply at the entry's place
+pub record AnswersTurn (s : Setting) (desk : ℕ) (history : List Entry) (request : Request) (entries : List Placed) (answer : Answer) : Type 0 where
+  pub made : Placed
+  pub reply : Reply
+  pub turn : IsMade s desk history request made reply
+  pub entries_are : entries ≡ made ∷ []
+  pub due : IsDue (answer_to (document_of request) reply) answer
+
+-- Answers to a plan ----------------------------------------------------------------------------------
+
+-- the plan's task was taken: an entry, with the task as its reply
+abbrev pub IsTaken : Setting → ℕ → List Entry → List ℕ → ℕ → Placed → Problem → Type 0
+IsTaken s desk history key edition taken task = IsMade s desk history (Take key edition) taken (says.Task task)
+
+-- the search found no path for the task, and the answer tells what it found
+pub record TellsNoPlan (task : Problem) (budget : ℕ) (answer : Answer) : Type 0 where
+  pub found : Found
+  pub answers : IsAnswerTo task budget found
+  pub none : IfBest found (λ _. ⊥)
+  pub told : answer ≡ text_answer (answer_text task found)
+
+-- the search found the best path for the task, with this evidence
+abbrev pub IsFound : Problem → ℕ → Certified → Type 0
+IsFound task budget proven = IsAnswerTo task budget (Best proven)
+
+-- the reply says that the plan was installed
+abbrev pub is_installed : Reply → Bool
+is_installed (says.Edition edition) = true
+is_installed reply = false
+
+-- the answer to a plan that was to be installed: the plan's text and no other where it was, and else what is due to the reply
+abbrev pub AnswersInstallIf : Bool → Answer → Reply → Answer → Type 0
+AnswersInstallIf true plan reply answer = answer ≡ plan
+AnswersInstallIf false plan reply answer = IsDue (answer_to Loadsheet reply) answer
+
+abbrev pub AnswersInstall : Answer → Reply → Answer → Type 0
+AnswersInstall plan reply answer = AnswersInstallIf (is_installed reply) plan reply answer
+
+-- the search found the best path for the task, and a second entry asked to install it
+pub record InstallsPlan (s : Setting) (desk : ℕ) (history : List Entry) (key : List ℕ) (edition budget : ℕ) (task : Problem) (rest : List Placed) (answer : Answer) : Type 0 where
+  pub proven : Certified
+  pub found : IsFound task budget proven
+  pub installed : Placed
+  pub reply : Reply
+  pub turn : IsMade s desk history (Install key edition proven) installed reply
+  pub rest_is : rest ≡ installed ∷ []
+  pub answer_is : AnswersInstall (text_answer (answer_text task (Best proven))) reply answer
+
+-- what is answered once the task was taken: memory ran out, there is no plan, or it was to be installed
+abbrev pub AnswersTask : Setting → ℕ → List Entry → List ℕ → ℕ → ℕ → Problem → List Placed → Answer → Type 0
+AnswersTask s desk history key edition budget task rest answer =
+    ((rest ≡ []) × (answer ≡ error_answer Memory))
+    ⊎ (((rest ≡ []) × TellsNoPlan task budget answer)
+    ⊎ InstallsPlan s desk history key edition budget task rest answer)
+
+-- a request for a plan whose task was taken
+pub record AnswersTaken (s : Setting) (desk : ℕ) (history : List Entry) (key : List ℕ) (edition budget : ℕ) (entries : List Placed) (answer : Answer) : Type 0 where
+  pub taken : Placed
+  pub task : Problem
+  pub rest : List Placed
+  pub take : IsTaken s desk history key edition taken task
+  pub entries_are : entries ≡ taken ∷ rest
+  pub planned : AnswersTask s desk history key edition budget task rest answer
+
+-- a request for a plan: the task was not given, which is answered as any other reply, or it was taken
+abbrev pub AnswersPlan : Setting → ℕ → List Entry → List ℕ → ℕ → ℕ → List Placed → Answer → Type 0
+AnswersPlan s desk history key edition budget entries answer =
+    AnswersTurn s desk history (Take key edition) entries answer ⊎ AnswersTaken s desk history key edition budget entries answer
+
+-- Answers ------------------------------------------------------------------------------------------
+
+-- what is refused before its turn makes no entry
+abbrev pub AnswersError : PlainError → List Placed → Answer → Type 0
+AnswersError error entries answer = (entries ≡ []) × (answer ≡ error_answer error)
+
+-- the entries and the answer to what was asked, where there was room for each entry
+abbrev pub Answers : Setting → ℕ → List Entry → Result Asked PlainError → List Placed → Answer → Type 0
+Answers s desk history (Err error) entries answer = AnswersError error entries answer
+Answers s desk history (Ok (asked.Entry request)) entries answer = AnswersTurn s desk history request entries answer
+Answers s desk history (Ok (asked.Plan key edition budget)) entries answer = AnswersPlan s desk history key edition budget entries answer
+
+-- the search found the best path for the task, and there was no room for the entry that asks to install it
+abbrev pub LacksRoom : Problem → ℕ → List Placed → Answer → Type 0
+LacksRoom task budget rest answer = ((proven : Certified) × IsFound task budget proven) × (rest ≡ []) × (answer ≡ error_answer Full)
+
+-- there was no room for an entry that was needed. A plan's task may have been taken before
+abbrev pub LacksInstall : Setting → ℕ → List Entry → List ℕ → ℕ → ℕ → List Placed → Type 0
+LacksInstall s desk history key edition budget entries =
+    (taken : Placed) × (task : Problem) × (proven : Certified)
+    × IsTaken s desk history key edition taken task × IsFound task budget proven × (entries ≡ taken ∷ [])
+
+abbrev pub LacksEntry : Setting → ℕ → List Entry → Asked → List Placed → Type 0
+LacksEntry s desk history (asked.Entry request) entries = entries ≡ []
+LacksEntry s desk history (asked.Plan key edition budget) entries =
+    (entries ≡ []) ⊎ LacksInstall s desk history key edition budget entries
+
+-- the entries and the answer to what was asked, where there is no room for an entry that it needs
+abbrev pub AnswersLate : Setting → ℕ → List Entry → Result Asked PlainError → List Placed → Answer → Type 0
+AnswersLate s desk history (Err error) entries answer = AnswersError error entries answer
+AnswersLate s desk history (Ok it) entries answer = LacksEntry s desk history it entries × (answer ≡ error_answer Full)
+
+-- Exchanges ----------------------------------------------------------------------------------------
+
+-- a request over HTTP, what it asks, the entries that it made with their places, and its answer
+pub record Exchange : Type 0 where
+  pub request : http.Request
+  pub asked : Result Asked PlainError
+  pub entries : List Placed
+  pub answer : Answer
+
+-- it is what the request asks, or memory ran out before that was known
+abbrev pub IsRead : http.Request → Result Asked PlainError → Type 0
+IsRead request it = (it ≡ Err Memory) ⊎ Asks request.method request.target request.body it
+
+pub record IsServed (s : Setting) (desk : ℕ) (history : List Entry) (x : Exchange) : Type 0 where
+  pub read : IsRead x.request x.asked
+  pub answers : Answers s desk history x.asked x.entries x.answer
+
+pub record IsLate (s : Setting) (desk : ℕ) (history : List Entry) (x : Exchange) : Type 0 where
+  pub read : IsRead x.request x.asked
+  pub answers : AnswersLate s desk history x.asked x.entries x.answer

@@ -1,0 +1,13 @@
+//! The laws of service.
+
+ghost use Rattle.desk_service.specs.Laws.{FailsWithTheKeeper, MakesFewerWithoutRoom, MakesTwoAtMost, StaysService};
+
+/// Does nothing. Its contract says that the definitions of service mean what they are meant to: a service stays one in every
+/// history that continues its own; an exchange makes two entries at most, and some one makes fewer where an answer is 507;
+/// and each answer 503 comes with an entry that was not kept because the keeper failed.
+pub fn service_laws()
+    ensures stays { StaysService }
+    ensures two_at_most { MakesTwoAtMost }
+    ensures fewer { MakesFewerWithoutRoom }
+    ensures failures { FailsWithTheKeeper }
+{}
