@@ -34,6 +34,7 @@ fn send<L: Link>(
         (answer_bytes (answered reply.now).status (answered reply.now).json closes (answered reply.now).body)) }
     ensures input_kept { L.left link.new ≡ L.left link.old }
     ensures reads_kept { L.read_faults link.new ≡ L.read_faults link.old }
+    ensures same_references { L.references link.new ≡ L.references link.old }
     ensures uncounted { OnOk result (L.write_faults link.new ≡ L.write_faults link.old) }
     ensures counted { OnErr result (Rose (L.write_faults link.old) (L.write_faults link.new)) }
 {
@@ -49,6 +50,7 @@ fn refuse<L: Link>(link: &mut L, reason: Refusal) -> Result<(), Failed>
     ensures part { OnErr result (AppendsPart (L.content link.old) (L.content link.new) (refusal_bytes reason)) }
     ensures input_kept { L.left link.new ≡ L.left link.old }
     ensures reads_kept { L.read_faults link.new ≡ L.read_faults link.old }
+    ensures same_references { L.references link.new ≡ L.references link.old }
     ensures uncounted { OnOk result (L.write_faults link.new ≡ L.write_faults link.old) }
     ensures counted { OnErr result (Rose (L.write_faults link.old) (L.write_faults link.new)) }
 {
@@ -81,6 +83,7 @@ fn serve_next<Rt, C: Counter<Rt>, L: Link, P: Placing>(
     ensures desk { C.desk counter.new ≡ C.desk counter.old }
     ensures full { C.full counter.old → C.full counter.new }
     ensures follows { C.follows counter.old counter.new }
+    ensures same_references { L.references link.new ≡ L.references link.old }
 {
     match receive(alloc, &mut tools.wire, &tools.router, link) {
         Ok(Some(received)) => {
@@ -116,6 +119,7 @@ pub fn serve_connection<Rt, C: Counter<Rt>, L: Link, P: Placing>(
     ensures desk { C.desk counter.new ≡ C.desk counter.old }
     ensures full { C.full counter.old → C.full counter.new }
     ensures follows { C.follows counter.old counter.new }
+    ensures same_references { L.references link.new ≡ L.references link.old }
 {
     tools.wire.restart();
     for _ in 0..MOST_REQUESTS - 1 {

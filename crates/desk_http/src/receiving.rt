@@ -33,6 +33,7 @@ pub fn receive<L: Link>(
     ensures lawful { IfOk result (λ received. IfSome received (λ it. IfOk it.asked IsLawful)) }
     ensures output_kept { L.content link.new ≡ L.content link.old }
     ensures writes_kept { L.write_faults link.new ≡ L.write_faults link.old }
+    ensures same_references { L.references link.new ≡ L.references link.old }
     ensures counts { Counts result (L.read_faults link.old) (L.read_faults link.new) }
 {
     match wire.next(link) {

@@ -26,6 +26,7 @@ pub fn answer<L: Link>(
         (AppendsPart (L.content link.old) (L.content link.new) (answer_bytes status json last body.now)) }
     ensures input_kept { L.left link.new ≡ L.left link.old }
     ensures reads_kept { L.read_faults link.new ≡ L.read_faults link.old }
+    ensures same_references { L.references link.new ≡ L.references link.old }
 
     // Only a failure raises the count.
     ensures never_falls { L.write_faults link.old ≤ L.write_faults link.new }

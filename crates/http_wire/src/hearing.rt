@@ -23,6 +23,7 @@ fn read_more<L: Link>(link: &mut L, buffer: &mut [u8], end: usize) -> Result<usi
     ensures untouched { OnErr result (L.left link.new ≡ L.left link.old) }
     ensures output_kept { L.content link.new ≡ L.content link.old }
     ensures writes_kept { L.write_faults link.new ≡ L.write_faults link.old }
+    ensures same_references { L.references link.new ≡ L.references link.old }
     ensures never_falls { L.read_faults link.old ≤ L.read_faults link.new }
     ensures uncounted { OnOk result (L.read_faults link.new ≡ L.read_faults link.old) }
     ensures counted { OnErr result (Rose (L.read_faults link.old) (L.read_faults link.new)) }
@@ -47,6 +48,7 @@ fn hear_more<L: Link>(
         (to_come (take end buffer.old) (L.left link.old)) (L.left link.new) result }
     ensures output_kept { L.content link.new ≡ L.content link.old }
     ensures writes_kept { L.write_faults link.new ≡ L.write_faults link.old }
+    ensures same_references { L.references link.new ≡ L.references link.old }
     ensures counts { Counts result (L.read_faults link.old) (L.read_faults link.new) }
     ensures never_falls { L.read_faults link.old ≤ L.read_faults link.new }
 {
@@ -75,6 +77,7 @@ fn hear_head<L: Link>(
         (take end.new buffer.new) (L.left link.new) result }
     ensures output_kept { L.content link.new ≡ L.content link.old }
     ensures writes_kept { L.write_faults link.new ≡ L.write_faults link.old }
+    ensures same_references { L.references link.new ≡ L.references link.old }
     ensures counts { Counts result (L.read_faults link.old) (L.read_faults link.new) }
     ensures never_falls { L.read_faults link.old ≤ L.read_faults link.new }
 {
@@ -107,6 +110,7 @@ fn hear_body<L: Link>(
         (take end.new buffer.new) (L.left link.new) result }
     ensures output_kept { L.content link.new ≡ L.content link.old }
     ensures writes_kept { L.write_faults link.new ≡ L.write_faults link.old }
+    ensures same_references { L.references link.new ≡ L.references link.old }
     ensures counts { Counts result (L.read_faults link.old) (L.read_faults link.new) }
     ensures never_falls { L.read_faults link.old ≤ L.read_faults link.new }
 {
@@ -134,6 +138,7 @@ fn hear_request<L: Link>(
         (take end.new buffer.new) (L.left link.new) result }
     ensures output_kept { L.content link.new ≡ L.content link.old }
     ensures writes_kept { L.write_faults link.new ≡ L.write_faults link.old }
+    ensures same_references { L.references link.new ≡ L.references link.old }
     ensures counts { Counts result (L.read_faults link.old) (L.read_faults link.new) }
     ensures never_falls { L.read_faults link.old ≤ L.read_faults link.new }
 {
@@ -184,6 +189,7 @@ pub fn hear_in<L: Link>(
         (slice_range buffer.new start.new end.new) (L.left link.new) result }
     ensures output_kept { L.content link.new ≡ L.content link.old }
     ensures writes_kept { L.write_faults link.new ≡ L.write_faults link.old }
+    ensures same_references { L.references link.new ≡ L.references link.old }
     ensures counts { Counts result (L.read_faults link.old) (L.read_faults link.new) }
     ensures never_falls { L.read_faults link.old ≤ L.read_faults link.new }
 {

@@ -91,6 +91,7 @@ impl Wire {
             HearsNext request_of (to_come self.old.heard (L.left link.old)) (L.left link.new) result new)) }
         ensures output_kept { L.content link.new ≡ L.content link.old }
         ensures writes_kept { L.write_faults link.new ≡ L.write_faults link.old }
+        ensures same_references { L.references link.new ≡ L.references link.old }
         ensures counts { Counts result (L.read_faults link.old) (L.read_faults link.new) }
         ensures never_falls { L.read_faults link.old ≤ L.read_faults link.new }
     {
@@ -109,6 +110,7 @@ impl Wire {
             (to_come self.old.heard (L.left link.old)) (L.left link.new) result self.new }
         ensures output_kept { L.content link.new ≡ L.content link.old }
         ensures writes_kept { L.write_faults link.new ≡ L.write_faults link.old }
+        ensures same_references { L.references link.new ≡ L.references link.old }
         ensures counts { Counts result (L.read_faults link.old) (L.read_faults link.new) }
         ensures never_falls { L.read_faults link.old ≤ L.read_faults link.new }
     {

@@ -24,6 +24,10 @@ pub trait Link {
     // How many writes have failed.
     ghost write_faults: { Self → ℕ };
 
+    // The names of the references that the link is made of; none where it is made of none. No call exchanges them, so
+    // whoever lent them finds behind them what the link was left with.
+    ghost references: { Self → List ℕ };
+
     /// Reads as a [`Source`](crate::Source) does. The output stays as it is.
     fn read(&mut self, buf: &mut [u8]) -> Result<usize, Failed>
         ensures within { IfOk result (λ n. n ≤ length buf.old) }
@@ -33,6 +37,7 @@ pub trait Link {
         ensures length { length buf.new ≡ length buf.old }
         ensures output_kept { content self.new ≡ content self.old }
         ensures writes_kept { write_faults self.new ≡ write_faults self.old }
+        ensures same_references { references self.new ≡ references self.old }
 
         // Only a failure raises the count.
         ensures never_falls { read_faults self.old ≤ read_faults self.new }
@@ -47,6 +52,7 @@ pub trait Link {
         ensures untouched { OnErr result (content self.new ≡ content self.old) }
         ensures input_kept { left self.new ≡ left self.old }
         ensures reads_kept { read_faults self.new ≡ read_faults self.old }
+        ensures same_references { references self.new ≡ references self.old }
 
         // Only a failure raises the count.
         ensures never_falls { write_faults self.old ≤ write_faults self.new }
@@ -61,6 +67,7 @@ pub fn send_all<L: Link>(link: &mut L, text: &[u8]) -> Result<(), Failed>
     ensures part { OnErr result (AppendsPart (L.content link.old) (L.content link.new) text.now) }
     ensures input_kept { L.left link.new ≡ L.left link.old }
     ensures reads_kept { L.read_faults link.new ≡ L.read_faults link.old }
+    ensures same_references { L.references link.new ≡ L.references link.old }
 
     // Only a failure raises the count.
     ensures never_falls { L.write_faults link.old ≤ L.write_faults link.new }

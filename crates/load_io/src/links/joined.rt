@@ -1,5 +1,5 @@
 // An input and an output that make a link together.
-ghost use Rattle.std.specs.Prelude.{◌≡◌};
+ghost use Rattle.std.specs.Prelude.{◌≡◌, [], ◌∷◌};
 
 use crate::{Failed, Link, Sink, Source};
 
@@ -18,6 +18,8 @@ impl<'a, S: Source, O: Sink> Link for Joined<'a, S, O> {
     ghost read_faults = { λ link. S.faults link.input.now };
 
     ghost write_faults = { λ link. O.faults link.out.now };
+
+    ghost references = { λ link. link.input.ghost_name ∷ link.out.ghost_name ∷ [] };
 
     fn read(&mut self, buf: &mut [u8]) -> Result<usize, Failed> {
         self.input.read(buf)

@@ -64,6 +64,8 @@ impl Link for MemoryLink {
 
     ghost write_faults = { λ link. link.output.calls.faults };
 
+    ghost references = { λ _. [] };
+
     fn read(&mut self, buf: &mut [u8]) -> Result<usize, Failed> {
         self.input.read(buf)
     }

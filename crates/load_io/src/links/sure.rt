@@ -1,5 +1,5 @@
 // A link that never fails.
-ghost use Rattle.std.specs.Prelude.{◌≡◌, None, Some};
+ghost use Rattle.std.specs.Prelude.{◌≡◌, [], None, Some};
 
 use crate::{Failed, Link, Sink, Source, SureSink, SureSource};
 use std::marker::Model;
@@ -39,6 +39,8 @@ impl Link for SureLink {
     ghost read_faults = { λ _. 0 };
 
     ghost write_faults = { λ _. 0 };
+
+    ghost references = { λ _. [] };
 
     fn read(&mut self, buf: &mut [u8]) -> Result<usize, Failed> {
         self.input.read(buf)

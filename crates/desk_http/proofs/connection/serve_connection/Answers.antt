@@ -17,6 +17,7 @@ loop-init g c =
       desk = refl;
       full = λ f. f;
       follows = g.met.C.Counter.follows_itself _;
+      same_references = refl;
       more = ap (λ (w : Hearing). w.over) c.restart.ensures;
       talk = subst (λ (heard : List ℕ). Talk L.left L.content L.read_faults L.write_faults (C.setting c.args.counter.now) (C.desk c.args.counter.now) (C.seen c.args.counter.now) c.args.link.now
           (C.full c.args.counter.now) (C.seen c.args.counter.now) c.args.link.now heard 0) (sym (ap (λ (w : Hearing). w.heard) c.restart.ensures))
@@ -39,6 +40,7 @@ loop-preserved g c =
       desk = e.desk ∙ i.desk;
       full = λ f. e.full (i.full f);
       follows = g.met.C.Counter.follows_on _ _ _ i.follows e.follows;
+      same_references = e.same_references ∙ i.same_references;
       more = stays_open _ _ _ _ _ _ _ _ _ _ _ _ _ _ _ _ _ _ n i.talk e.full final (omega arith) steps refl;
       talk = talk_more _ _ _ _ _ _ _ _ _ _ _ _ _ _ _ _ _ _ n i.talk e.full final (omega arith) steps refl;
     }
@@ -67,6 +69,9 @@ returns-in-Some-clause-full g c = λ f. c.serve_next.ensures.full (c.loop.invari
 pub returns-in-Some-clause-follows : goal.returns-in-Some-clause-follows
 returns-in-Some-clause-follows g c = g.met.C.Counter.follows_on _ _ _ c.loop.invariant.follows c.serve_next.ensures.follows
 
+pub returns-in-Some-clause-same_references : goal.returns-in-Some-clause-same_references
+returns-in-Some-clause-same_references g c = c.serve_next.ensures.same_references ∙ c.loop.invariant.same_references
+
 pub returns-in-Some-serve_next-clause-served : goal.returns-in-Some-serve_next-clause-served
 returns-in-Some-serve_next-clause-served g c =
     let i = c.loop.invariant in
@@ -88,6 +93,9 @@ returns-in-Some-serve_next-clause-full g c = λ f. c.serve_next-2.ensures.full (
 pub returns-in-Some-serve_next-clause-follows : goal.returns-in-Some-serve_next-clause-follows
 returns-in-Some-serve_next-clause-follows g c = g.met.C.Counter.follows_on _ _ _ c.loop.invariant.follows c.serve_next-2.ensures.follows
 
+pub returns-in-Some-serve_next-clause-same_references : goal.returns-in-Some-serve_next-clause-same_references
+returns-in-Some-serve_next-clause-same_references g c = c.serve_next-2.ensures.same_references ∙ c.loop.invariant.same_references
+
 pub returns-in-None-serve_next-clause-served : goal.returns-in-None-serve_next-clause-served
 returns-in-None-serve_next-clause-served g c =
     let i = c.loop.invariant in
@@ -108,3 +116,6 @@ returns-in-None-serve_next-clause-full g c = λ f. c.serve_next-2.ensures.full (
 
 pub returns-in-None-serve_next-clause-follows : goal.returns-in-None-serve_next-clause-follows
 returns-in-None-serve_next-clause-follows g c = g.met.C.Counter.follows_on _ _ _ c.loop.invariant.follows c.serve_next-2.ensures.follows
+
+pub returns-in-None-serve_next-clause-same_references : goal.returns-in-None-serve_next-clause-same_references
+returns-in-None-serve_next-clause-same_references g c = c.serve_next-2.ensures.same_references ∙ c.loop.invariant.same_references

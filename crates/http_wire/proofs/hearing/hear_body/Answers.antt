@@ -38,6 +38,7 @@ reads-preserved g c =
       output_kept = more.output_kept ∙ l.invariant.output_kept;
       reads_kept = more.uncounted ∙ l.invariant.reads_kept;
       writes_kept = more.writes_kept ∙ l.invariant.writes_kept;
+      same_references = more.same_references ∙ l.invariant.same_references;
     }
 
 pub returns-clause-heard : goal.returns-clause-heard

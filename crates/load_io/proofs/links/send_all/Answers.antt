@@ -9,4 +9,5 @@ loop-at-preserved g c = (
       c.loop-at.invariant.0 c.in_ok-at.ensures.within c.in_ok-at.ensures.appended c.in_ok-at.ensures.uncounted,
   c.in_ok-at.ensures.input_kept ∙ c.loop-at.invariant.1,
   c.in_ok-at.ensures.reads_kept ∙ c.loop-at.invariant.2,
+  c.in_ok-at.ensures.same_references ∙ c.loop-at.invariant.3,
 )
