@@ -9,3 +9,4 @@ mod WalkLemmas
 mod Comparing
 mod TreeSteps
 mod Judging
+mod SomeReason

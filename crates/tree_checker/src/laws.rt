@@ -18,8 +18,8 @@ ghost use Rattle.tree_checker.specs.declared.rejection.TreeRejection.TheVariants
 
 /// A good certificate of trees proves its claim: the path that it claims is shown to be the best, and where it claims none,
 /// no path is admissible. Whoever holds a good certificate need not trust the search that found it. The operations of a
-/// tree have one outcome; so a certificate that is rejected is not good, and it is rejected for one reason. Running out of
-/// memory says nothing about the certificate and is no reason in this sense.
+/// tree have one outcome; so a certificate that is rejected is not good, and it is rejected for one reason; and none is
+/// without both, good and a reason. Running out of memory says nothing about the certificate and is no reason in this sense.
 ///
 /// The call does nothing: it is there for its contract.
 pub fn tree_certificate_laws()
@@ -36,4 +36,6 @@ pub fn tree_certificate_laws()
         → rejection ≢ NoMemory → IsGoodTrees t c → ⊥ }
     ensures one_reason { (t : Problem) (c : ListedTrees) (a b : TreeRejection) → IsRejected t c a → IsRejected t c b
         → a ≢ NoMemory → b ≢ NoMemory → a ≡ b }
+    ensures some_reason { (t : Problem) (c : ListedTrees) → (IsGoodTrees t c → ⊥)
+        → ((rejection : TreeRejection) → IsRejected t c rejection → rejection ≡ NoMemory) → ⊥ }
 {}

@@ -1,6 +1,7 @@
 use Rattle.tree_checker.proofs.Readings.{one-outcome}
 use Rattle.tree_checker.proofs.GoodLaws.{good-shows, good-best, good-none}
 use Rattle.tree_checker.proofs.OneReason.{rejected-not_good, one-reason}
+use Rattle.tree_checker.proofs.SomeReason.{some-reason}
 use Rattle.tree_checker.proofs.laws.tree_certificate_laws.Goals as goal
 
 pub returns : goal.returns
@@ -11,4 +12,5 @@ returns c = record {
   one_outcome = one-outcome;
   not_good = rejected-not_good;
   one_reason = one-reason;
+  some_reason = some-reason;
 }
