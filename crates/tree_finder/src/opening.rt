@@ -1,0 +1,94 @@
+//! The prices with which a search begins.
+
+use crate::ground::Ground;
+use crate::ledger::Ledger;
+use desk_base::NoMemory;
+use hold_choices::Choices;
+use raised_prices::{Held, Pair, Prices, Raising};
+use search_tables::{End, Load, Path, TickSpan};
+use std::alloc::Global;
+
+/// How many steps prices are raised before the first look.
+const OPENING_STEPS: u32 = 200;
+
+/// No prices, from an end.
+pub fn free(alloc: Global, load: &Load, end: End, serial: usize) -> Result<Held, NoMemory> {
+    let prices = Prices::free(alloc, load, end)?;
+    let costs = prices.costs(load);
+    Ok(Held {
+        prices,
+        costs,
+        serial,
+    })
+}
+
+fn copy_of_held(alloc: Global, held: &Held) -> Result<Held, NoMemory> {
+    Ok(Held {
+        prices: held.prices.copy(alloc)?,
+        costs: held.costs,
+        serial: held.serial,
+    })
+}
+
+/// The same prices.
+pub fn copy_of_pair(alloc: Global, pair: &Pair) -> Result<Pair, NoMemory> {
+    Ok(Pair {
+        low: copy_of_held(alloc, &pair.low)?,
+        high: copy_of_held(alloc, &pair.high)?,
+    })
+}
+
+/// Prices raised for a choice from others, in at most so many steps. The paths that were met are added.
+pub fn raised(
+    ground: &Ground<'_>,
+    choice: &Choices,
+    goal: i64,
+    from: &Held,
+    steps: u32,
+    serial: usize,
+    met: &mut Vec<Path>,
+) -> Result<Held, NoMemory> {
+    let raising = Raising {
+        alloc: ground.alloc,
+        load: ground.load,
+        sets: choice.sets(),
+        goal,
+        unit: ground.unit,
+    };
+    raising.raise(&from.prices, steps, serial, met)
+}
+
+/// Prices for a choice as good as they get, from none.
+fn best_from(
+    ground: &Ground<'_>,
+    choice: &Choices,
+    ticks: TickSpan,
+    end: End,
+    ledger: &mut Ledger,
+) -> Result<Held, NoMemory> {
+    let free = free(ground.alloc, ground.load, end, 0)?;
+    let mut met = Vec::new(ground.alloc);
+    let serial = ledger.next_serial()?;
+    raised(
+        ground,
+        choice,
+        ticks.goal(end),
+        &free,
+        OPENING_STEPS,
+        serial,
+        &mut met,
+    )
+}
+
+/// Prices for a choice from both ends, as good as they get.
+pub fn opening_prices(
+    ground: &Ground<'_>,
+    choice: &Choices,
+    ticks: TickSpan,
+    ledger: &mut Ledger,
+) -> Result<Pair, NoMemory> {
+    Ok(Pair {
+        low: best_from(ground, choice, ticks, End::Low, ledger)?,
+        high: best_from(ground, choice, ticks, End::High, ledger)?,
+    })
+}
