@@ -1,5 +1,5 @@
 -- The answers to commands, over files that may be hidden.
-use Rattle.std.proofs.Common.{◌≡◌, ℕ, List, Option, Some, None, subst}
+use Rattle.std.proofs.Common.{ℕ, List, Option, Some, None}
 use Rattle.std.specs.Prelude.{IfSome}
 use Rattle.load_io.specs.Shelf.{Files}
 use Rattle.hold_limits.specs.Problem.{Problem}
@@ -8,10 +8,12 @@ use Rattle.loadctl.specs.declared.ending.Outcome.{Outcome}
 use Rattle.loadctl.specs.declared.ending.Halt.{Halt}
 use Rattle.loadctl.specs.declared.ending.Halt.TheVariants.{BadInput, ReadFault, NoMemory}
 use Rattle.loadctl.specs.Halts.{IfBadInput}
-use Rattle.loadctl.specs.Arguments.Job.{place, check, generate}
-use Rattle.loadctl.specs.Reply.{IsTaskFile, IsRefusedTask, IsCertificateFile, IsRefusedCertificate, IsPlacing, IsJudgement, IsSummary, IsAnswer, IsBadInput}
-use Rattle.loadctl.specs.Reply.IsAnswer.{placed, judged, summed}
-use Rattle.loadctl.specs.Reply.IsBadInput.{bad_task, bad_checked_task, bad_certificate}
+use Rattle.tree_certificate.specs.Listed.{ListedTrees}
+use Rattle.loadctl.specs.Arguments.Job.{place, check, best, check_trees, generate}
+use Rattle.loadctl.specs.TreeReply.{IsTreePlacing, IsTreeJudgement}
+use Rattle.loadctl.specs.Reply.{IsTaskFile, IsRefusedTask, IsCertificateFile, IsRefusedCertificate, IsTreeFile, AreRefusedTrees, IsPlacing, IsJudgement, IsSummary, IsAnswer, IsBadInput}
+use Rattle.loadctl.specs.Reply.IsAnswer.{placed, judged, placed_by_trees, trees_judged, summed}
+use Rattle.loadctl.specs.Reply.IsBadInput.{bad_task, bad_checked_task, bad_certificate, bad_best_task, bad_task_of_trees, bad_trees}
 
 over : (exposed : Option Files) (P Q : Files → Type 0) → IfSome exposed P → ((files : Files) → P files → Q files) → IfSome exposed Q
 over None P Q holds then = tt
@@ -60,3 +62,40 @@ bad-certificate (BadInput line) exposed task certificate t file wrong =
     (λ files there is. bad_certificate task certificate t line.items there is)
 bad-certificate ReadFault exposed task certificate t file wrong = tt
 bad-certificate NoMemory exposed task certificate t file wrong = tt
+
+-- Commands for trees ----------------------------------------------------------------------------
+
+pub placed-by_trees-answer : (exposed : Option Files) (task : List ℕ) (looks : ℕ) (t : Problem) (outcome : Outcome) (text : List ℕ) → IfSome exposed (λ files. IsTaskFile files task t)
+    → IsTreePlacing t looks outcome text → IfSome exposed (λ files. IsAnswer files (best task looks) outcome text)
+placed-by_trees-answer exposed task looks t outcome text file is =
+    over exposed (λ files. IsTaskFile files task t) (λ files. IsAnswer files (best task looks) outcome text) file (λ files there. placed_by_trees task looks t outcome text there is)
+
+pub trees-judged-answer : (exposed : Option Files) (task certificate : List ℕ) (t : Problem) (c : ListedTrees) (outcome : Outcome) (text : List ℕ)
+    → IfSome exposed (λ files. IsTaskFile files task t) → IfSome exposed (λ files. IsTreeFile files certificate t c)
+    → IsTreeJudgement t c outcome text → IfSome exposed (λ files. IsAnswer files (check_trees task certificate) outcome text)
+trees-judged-answer exposed task certificate t c outcome text file evidence is =
+    over_both exposed (λ files. IsTaskFile files task t) (λ files. IsTreeFile files certificate t c) (λ files. IsAnswer files (check_trees task certificate) outcome text) file evidence
+    (λ files there whole. trees_judged task certificate t c outcome text there whole is)
+
+pub bad-best_task : (halt : Halt) (exposed : Option Files) (task : List ℕ) (looks : ℕ) → IfBadInput halt (λ line. IfSome exposed (λ files. IsRefusedTask files task line))
+    → IfBadInput halt (λ line. IfSome exposed (λ files. IsBadInput files (best task looks) line))
+bad-best_task (BadInput line) exposed task looks wrong =
+    over exposed (λ files. IsRefusedTask files task line.items) (λ files. IsBadInput files (best task looks) line.items) wrong (λ files is. bad_best_task task looks line.items is)
+bad-best_task ReadFault exposed task looks wrong = tt
+bad-best_task NoMemory exposed task looks wrong = tt
+
+pub bad-task_of_trees : (halt : Halt) (exposed : Option Files) (task certificate : List ℕ) → IfBadInput halt (λ line. IfSome exposed (λ files. IsRefusedTask files task line))
+    → IfBadInput halt (λ line. IfSome exposed (λ files. IsBadInput files (check_trees task certificate) line))
+bad-task_of_trees (BadInput line) exposed task certificate wrong =
+    over exposed (λ files. IsRefusedTask files task line.items) (λ files. IsBadInput files (check_trees task certificate) line.items) wrong (λ files is. bad_task_of_trees task certificate line.items is)
+bad-task_of_trees ReadFault exposed task certificate wrong = tt
+bad-task_of_trees NoMemory exposed task certificate wrong = tt
+
+pub bad-trees : (halt : Halt) (exposed : Option Files) (task certificate : List ℕ) (t : Problem) → IfSome exposed (λ files. IsTaskFile files task t)
+    → IfBadInput halt (λ line. IfSome exposed (λ files. AreRefusedTrees files certificate t line))
+    → IfBadInput halt (λ line. IfSome exposed (λ files. IsBadInput files (check_trees task certificate) line))
+bad-trees (BadInput line) exposed task certificate t file wrong =
+    over_both exposed (λ files. IsTaskFile files task t) (λ files. AreRefusedTrees files certificate t line.items) (λ files. IsBadInput files (check_trees task certificate) line.items) file wrong
+    (λ files there is. bad_trees task certificate t line.items there is)
+bad-trees ReadFault exposed task certificate t file wrong = tt
+bad-trees NoMemory exposed task certificate t file wrong = tt

@@ -1,5 +1,5 @@
 -- What is read from files.
-use Rattle.std.proofs.Common.{◌≡◌, ◌≢◌, ℕ, ◌<◌, ◌≤◌, List, length, Option, Some, None, Result, Ok, Err, refl, sym, ap, subst, ◌∙◌}
+use Rattle.std.proofs.Common.{◌≡◌, ℕ, ◌<◌, ◌≤◌, List, length, Option, Some, None, Result, Ok, Err, sym, subst}
 use Rattle.std.specs.Option.{IsSomeAnd}
 use Rattle.std.specs.Result.{IfErr, IsErrAnd}
 use Rattle.loadctl.specs.declared.ending.Halt.{Halt}
@@ -12,8 +12,10 @@ use Rattle.hold_limits.specs.Faults.{IsLawful}
 use Rattle.problem_text.specs.TaskText.{Spells}
 use Rattle.loadctl.specs.ReplyText.{longest_task, longest_certificate, long_text}
 use Rattle.loadctl.specs.Reply.{IsTaskIn, IsRefusal, IsCertificateRefusal, Holds}
-use Rattle.loadctl.specs.Reply.IsRefusal.{too_long as task_too_long, no_task}
-use Rattle.loadctl.specs.Reply.IsCertificateRefusal.{too_long as certificate_too_long, no_certificate}
+use Rattle.loadctl.specs.TreeReply.{IsTreeRefusal}
+use Rattle.loadctl.specs.TreeReply.IsTreeRefusal.{too_long as trees_too_long}
+use Rattle.loadctl.specs.Reply.IsRefusal.{too_long as task_too_long}
+use Rattle.loadctl.specs.Reply.IsCertificateRefusal.{too_long as certificate_too_long}
 
 -- a lawful task that the bytes spell, as a reader returns it
 pub IsTaskIn-from_read : (bytes : List ℕ) (t : Problem) → length bytes ≤ longest_task → Spells bytes t → IsLawful t → IsTaskIn bytes t
@@ -41,6 +43,9 @@ long-refused line bytes is long = subst (IsRefusal bytes) (sym is) (task_too_lon
 
 pub long-certificate-refused : (t : Problem) (line bytes : List ℕ) → line ≡ long_text → longest_certificate < length bytes → IsCertificateRefusal t bytes line
 long-certificate-refused t line bytes is long = subst (IsCertificateRefusal t bytes) (sym is) (certificate_too_long long)
+
+pub long-trees-refused : (t : Problem) (line bytes : List ℕ) → line ≡ long_text → longest_certificate < length bytes → IsTreeRefusal t bytes line
+long-trees-refused t line bytes is long = subst (IsTreeRefusal t bytes) (sym is) (trees_too_long long)
 
 -- what holds of the error that `?` returns
 pub IfErr-from_residual : {X E : Type 0} (r : Result X E) (e : E) (P : E → Type 0) → IsErrAnd r (λ x. x ≡ e) → P e → IfErr r P

@@ -1,71 +1,42 @@
 -- Replies to the arguments: there is one job for them, and its input is right or refused, never both.
-use Rattle.std.proofs.Common.{◌≡◌, ◌≢◌, ℕ, ◌<◌, ◌≤◌, List, [], ◌∷◌, length, get_or, Option, Some, None, arith, lit<, refl, sym, ap, subst, ◌∙◌}
+use Rattle.std.proofs.Common.{◌≡◌, ◌≢◌, ℕ, List, Option, Some, None, arith, lit<, refl, sym, subst}
 use Rattle.std.specs.Option.{IsSomeAnd}
-use Rattle.std.specs.Prelude.{All, IfSome, codes}
+use Rattle.std.specs.Prelude.{All, IfSome}
 use Rattle.std.proofs.lemmas.List.Elements.{All-weaker}
 use Rattle.load_io.specs.Shelf.{Files}
-use Rattle.mass_units.specs.Spelling.{number_text}
-use Rattle.mass_units.proofs.SpellingLemmas.{number_text-injective}
 use Rattle.hold_parts.specs.Spellings.{IsName}
 use Rattle.hold_parts.specs.declared.parts.Position.{Position}
 use Rattle.hold_limits.specs.Problem.{Problem}
 use Rattle.problem_text.specs.TaskText.{IsSpelledPosition}
-use Rattle.problem_text.specs.declared.fault.TextFault.{TextFault}
 use Rattle.problem_text.specs.declared.fault.TextFault.TheVariants as text
 use Rattle.problem_text.proofs.RefusalLemmas.{spelled_once, lawful_not_refused}
-use Rattle.certificate.specs.declared.fault.CertFault.{CertFault}
 use Rattle.certificate.specs.declared.fault.CertFault.TheVariants as cert
 use Rattle.certificate.specs.declared.parts.Certificate.{Certificate}
 use Rattle.certificate.proofs.PathLemmas.{clear_names}
 use Rattle.certificate.proofs.ReadLemmas.{spelled_has_no_fault}
+use Rattle.tree_certificate.specs.Listed.{ListedTrees}
+use Rattle.tree_certificate.specs.declared.fault.TreeFault.TheVariants as tree
+use Rattle.tree_certificate.proofs.ReadLemmas.{spelled_has_no_fault as trees_have_no_fault}
 use Rattle.loadctl.specs.declared.ending.Outcome.{Outcome}
-use Rattle.loadctl.specs.declared.ending.Outcome.TheVariants.{Done, Usage, BadInput, NothingFits, OverBudget, Rejected}
-use Rattle.loadctl.specs.Arguments.{Job, AskFor, IsCommand, AreInvalid}
-use Rattle.loadctl.specs.Arguments.Job.{place, check, generate}
-use Rattle.loadctl.specs.Arguments.AskFor.{place_usually, place_within, check_certificate, generate_load}
+use Rattle.loadctl.specs.declared.ending.Outcome.TheVariants.{Usage, BadInput}
+use Rattle.loadctl.specs.Arguments.{Job, IsCommand, AreInvalid}
 use Rattle.loadctl.specs.ReplyText.{usage_text}
-use Rattle.loadctl.specs.Reply.{IsTaskIn, IsRefusal, IsCertificateIn, IsCertificateRefusal, IsTaskFile, IsCertificateFile, IsPlacing, IsJudgement, IsSummary, IsAnswer, IsBadInput, IsReply, HasInput, HaveInput, HaveBadInput, IsAnswered}
+use Rattle.loadctl.specs.TreeReply.{AreTreesIn, IsTreeRefusal, IsTreePlacing, IsTreeJudgement}
+use Rattle.loadctl.specs.TreeReply.IsTreeRefusal.{too_long as trees_too_long, no_trees}
+use Rattle.loadctl.specs.TreeReply.IsTreePlacing.{plan as tree_plan, nothing_fits as tree_nothing_fits, undecided}
+use Rattle.loadctl.specs.TreeReply.IsTreeJudgement.{good as good_trees, rejected as rejected_trees}
+use Rattle.loadctl.specs.Reply.{IsTaskIn, IsRefusal, IsCertificateIn, IsCertificateRefusal, IsCertificateFile, IsTreeFile, IsPlacing, IsJudgement, IsSummary, IsAnswer, IsBadInput, IsReply, HasInput, HaveInput, HaveBadInput, IsAnswered}
 use Rattle.loadctl.specs.Reply.IsRefusal.{too_long as task_too_long, no_task}
 use Rattle.loadctl.specs.Reply.IsCertificateRefusal.{too_long as certificate_too_long, no_certificate}
 use Rattle.loadctl.specs.Reply.IsPlacing.{plan, nothing_fits, over_budget}
 use Rattle.loadctl.specs.Reply.IsJudgement.{good, rejected}
 use Rattle.loadctl.specs.Reply.IsSummary.{plan_summed, none_summed, budget_summed}
-use Rattle.loadctl.specs.Reply.IsAnswer.{placed, judged, summed}
-use Rattle.loadctl.specs.Reply.IsBadInput.{bad_task, bad_checked_task, bad_certificate}
+use Rattle.loadctl.specs.Reply.IsAnswer.{placed, judged, placed_by_trees, trees_judged, summed}
+use Rattle.loadctl.specs.Reply.IsBadInput.{bad_task, bad_checked_task, bad_certificate, bad_best_task, bad_task_of_trees, bad_trees}
 use Rattle.loadctl.specs.Reply.IsReply.{answered, refused, usage}
-use Rattle.loadctl.specs.Reply.IsAnswered.{is_done, is_nothing_fits, is_over_budget, is_rejected}
+use Rattle.loadctl.specs.Reply.IsAnswered.{is_done, is_nothing_fits, is_over_budget, is_undecided, is_rejected}
 use Rattle.loadctl.specs.Run.{IsReplyOver}
-
--- One job ---------------------------------------------------------------------------------------
-
--- the first letter of the first argument
-first_letter : List (List ℕ) → ℕ
-first_letter words = get_or (get_or words 0 []) 0 0
-
-one_form : (arguments : List (List ℕ)) (a b : Job) → AskFor arguments a → AskFor arguments b → a ≡ b
-unfolding first_letter
-one_form arguments _ _ (place_usually task is) (place_usually other same) = let e = sym is ∙ same in cc
-one_form arguments _ _ (place_usually task is) (place_within other n same low high) = let e = sym is ∙ same in absurd (cc e)
-one_form arguments _ _ (place_usually task is) (check_certificate other c same) = let e = sym is ∙ same in absurd (cc e)
-one_form arguments _ _ (place_usually task is) (generate_load n same fits) = let e : 112 ≡ 103 = ap first_letter (sym is ∙ same) in absurd (omega (arith, e))
-one_form arguments _ _ (place_within task m is low high) (place_usually other same) = let e = sym is ∙ same in absurd (cc e)
-one_form arguments _ _ (place_within task m is low high) (place_within other n same low_too high_too) =
-    let e = sym is ∙ same in
-    let number : m ≡ n = number_text-injective m n (cc e) in
-    cc
-one_form arguments _ _ (place_within task m is low high) (check_certificate other c same) = let e : 112 ≡ 99 = ap first_letter (sym is ∙ same) in absurd (omega (arith, e))
-one_form arguments _ _ (place_within task m is low high) (generate_load n same fits) = let e = sym is ∙ same in absurd (cc e)
-one_form arguments _ _ (check_certificate task c is) (place_usually other same) = let e = sym is ∙ same in absurd (cc e)
-one_form arguments _ _ (check_certificate task c is) (place_within other n same low high) = let e : 99 ≡ 112 = ap first_letter (sym is ∙ same) in absurd (omega (arith, e))
-one_form arguments _ _ (check_certificate task c is) (check_certificate other d same) = let e = sym is ∙ same in cc
-one_form arguments _ _ (check_certificate task c is) (generate_load n same fits) = let e = sym is ∙ same in absurd (cc e)
-one_form arguments _ _ (generate_load m is fits) (place_usually other same) = let e : 103 ≡ 112 = ap first_letter (sym is ∙ same) in absurd (omega (arith, e))
-one_form arguments _ _ (generate_load m is fits) (place_within other n same low high) = let e = sym is ∙ same in absurd (cc e)
-one_form arguments _ _ (generate_load m is fits) (check_certificate other c same) = let e = sym is ∙ same in absurd (cc e)
-one_form arguments _ _ (generate_load m is fits) (generate_load n same fits_too) =
-    let e = sym is ∙ same in
-    let number : m ≡ n = number_text-injective m n (cc e) in
-    cc
+use Rattle.loadctl.proofs.OneJob.{one_form}
 
 -- Right and refused -----------------------------------------------------------------------------
 
@@ -92,6 +63,13 @@ certificate-not_refused t bytes _ c named right (no_certificate fault line short
     let none : fault ≡ cert.NoMemory = spelled_has_no_fault ps (clear_names 32 ps (lit< tt) named) (clear_names 10 ps (lit< tt) named) bytes c fault right.spelled why in
     rw none at is
 
+trees-not_refused : (t : Problem) (bytes line : List ℕ) (c : ListedTrees) → All (λ (q : Position). IsName q.name) t.hold.positions
+    → AreTreesIn t bytes c → IsTreeRefusal t bytes line → ⊥
+trees-not_refused t bytes _ c named right (trees_too_long long) = absurd (omega (arith, right.short))
+trees-not_refused t bytes _ c named right (no_trees fault line short why is) =
+    let none : fault ≡ tree.NoMemory = trees_have_no_fault t.hold.positions named bytes c fault right.spelled why in
+    rw none at is
+
 -- the files of a job are not refused where they are right
 right-not_bad : (files : Files) (job : Job) (line : List ℕ) → IsBadInput files job line → HasInput files job → ⊥
 right-not_bad files _ _ (bad_task task budget line wrong) input =
@@ -105,6 +83,17 @@ right-not_bad files _ _ (bad_certificate task certificate t line there wrong) in
     both (files certificate) (λ bytes. IsCertificateIn t bytes input.1) (λ bytes. IsCertificateRefusal t bytes line)
     (subst (λ (p : Problem). IsCertificateFile files certificate p input.1) same input.3) wrong
     (λ evidence whole refusal. certificate-not_refused t evidence line input.1 (names bytes t other) whole refusal))
+right-not_bad files _ _ (bad_best_task task looks line wrong) input =
+    both (files task) (λ bytes. IsTaskIn bytes input.0) (λ bytes. IsRefusal bytes line) input.1 wrong (λ bytes right long. task-not_refused bytes line input.0 right long)
+right-not_bad files _ _ (bad_task_of_trees task certificate line wrong) input =
+    both (files task) (λ bytes. IsTaskIn bytes input.0) (λ bytes. IsRefusal bytes line) input.2 wrong (λ bytes right long. task-not_refused bytes line input.0 right long)
+right-not_bad files _ _ (bad_trees task certificate t line there wrong) input =
+    both (files task) (λ bytes. IsTaskIn bytes input.0) (λ bytes. IsTaskIn bytes t) input.2 there
+    (λ bytes right other.
+    let same : input.0 ≡ t = spelled_once bytes input.0 t right.spelled other.spelled in
+    both (files certificate) (λ bytes. AreTreesIn t bytes input.1) (λ bytes. IsTreeRefusal t bytes line)
+    (subst (λ (p : Problem). IsTreeFile files certificate p input.1) same input.3) wrong
+    (λ evidence whole refusal. trees-not_refused t evidence line input.1 (names bytes t other) whole refusal))
 
 -- Answers ---------------------------------------------------------------------------------------
 
@@ -122,20 +111,34 @@ summary-answered number _ _ (plan_summed path c best claim evidence) = is_done
 summary-answered number _ _ (none_summed c none claim evidence) = is_done
 summary-answered number _ _ (budget_summed more) = is_over_budget
 
+pub tree-placing-answered : (t : Problem) (looks : ℕ) (outcome : Outcome) (text : List ℕ) → IsTreePlacing t looks outcome text → IsAnswered outcome
+tree-placing-answered t looks _ _ (tree_plan path c best claim is_good) = is_done
+tree-placing-answered t looks _ _ (tree_nothing_fits c none claim is_good) = is_nothing_fits
+tree-placing-answered t looks _ _ undecided = is_undecided
+
+pub tree-judgement-answered : (t : Problem) (c : ListedTrees) (outcome : Outcome) (text : List ℕ) → IsTreeJudgement t c outcome text → IsAnswered outcome
+tree-judgement-answered t c _ _ (good_trees is) = is_done
+tree-judgement-answered t c _ _ (rejected_trees reason line not_good first is) = is_rejected
+
 answer-answered : (files : Files) (job : Job) (outcome : Outcome) (text : List ℕ) → IsAnswer files job outcome text → IsAnswered outcome
 answer-answered files _ _ _ (placed task budget t outcome text file is) = placing-answered t budget outcome text is
 answer-answered files _ _ _ (judged task certificate t c outcome text file evidence is) = judgement-answered t c outcome text is
+answer-answered files _ _ _ (placed_by_trees task looks t outcome text file is) = tree-placing-answered t looks outcome text is
+answer-answered files _ _ _ (trees_judged task certificate t c outcome text file evidence is) = tree-judgement-answered t c outcome text is
 answer-answered files _ _ _ (summed number outcome text is) = summary-answered number outcome text is
 
 answer-input : (files : Files) (job : Job) (outcome : Outcome) (text : List ℕ) → IsAnswer files job outcome text → HasInput files job
 answer-input files _ _ _ (placed task budget t outcome text file is) = (t, file)
 answer-input files _ _ _ (judged task certificate t c outcome text file evidence is) = (t, c, file, evidence)
+answer-input files _ _ _ (placed_by_trees task looks t outcome text file is) = (t, file)
+answer-input files _ _ _ (trees_judged task certificate t c outcome text file evidence is) = (t, c, file, evidence)
 answer-input files _ _ _ (summed number outcome text is) = tt
 
 pub answered-not_usage : (outcome : Outcome) → IsAnswered outcome → outcome ≢ Usage
 answered-not_usage _ is_done = λ e. cc
 answered-not_usage _ is_nothing_fits = λ e. cc
 answered-not_usage _ is_over_budget = λ e. cc
+answered-not_usage _ is_undecided = λ e. cc
 answered-not_usage _ is_rejected = λ e. cc
 
 -- Replies ---------------------------------------------------------------------------------------

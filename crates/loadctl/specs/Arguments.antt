@@ -17,12 +17,23 @@ usual_budget = 20000
 abbrev pub greatest_budget : ℕ
 greatest_budget = 50000
 
+-- how many choices a search by trees looks at if the arguments do not say it, and the greatest number
+abbrev pub usual_looks : ℕ
+usual_looks = 20000
+
+abbrev pub greatest_looks : ℕ
+greatest_looks = 1000000
+
 -- what the program can be asked for
 pub data Job : Type 0 where
   -- the best placement of the task in a file, with a budget
   place : (task : List ℕ) (budget : ℕ) → Job
   -- whether a certificate in a file is good for the task in another
   check : (task certificate : List ℕ) → Job
+  -- the best placement of the task in a file by trees, with so many looks
+  best : (task : List ℕ) (looks : ℕ) → Job
+  -- whether a certificate of trees in a file is good for the task in another
+  check_trees : (task certificate : List ℕ) → Job
   -- the placement of the load that is made from a number
   generate : (number : ℕ) → Job
 
@@ -36,6 +47,14 @@ pub data AskFor (arguments : List (List ℕ)) : Job → Type 0 where
   -- `check TASK CERTIFICATE`
   check_certificate : (task certificate : List ℕ) → arguments ≡ codes "check" ∷ task ∷ certificate ∷ []
       → AskFor arguments (check task certificate)
+  -- `best TASK`
+  best_usually : (task : List ℕ) → arguments ≡ codes "best" ∷ task ∷ [] → AskFor arguments (best task usual_looks)
+  -- `best TASK LOOKS`
+  best_within : (task : List ℕ) (looks : ℕ) → arguments ≡ codes "best" ∷ task ∷ number_text looks ∷ [] → 1 ≤ looks → looks ≤ greatest_looks
+      → AskFor arguments (best task looks)
+  -- `bestcheck TASK CERTIFICATE`
+  check_best : (task certificate : List ℕ) → arguments ≡ codes "bestcheck" ∷ task ∷ certificate ∷ []
+      → AskFor arguments (check_trees task certificate)
   -- `gen NUMBER`
   generate_load : (number : ℕ) → arguments ≡ codes "gen" ∷ number_text number ∷ [] → number < 2 ^ 32 → AskFor arguments (generate number)
 

@@ -3,5 +3,6 @@ pub mod Commands
 pub mod Halts
 pub mod Outcomes
 pub mod ReplyText
+pub mod TreeReply
 pub mod Reply
 pub mod Run

@@ -1,5 +1,5 @@
 -- The reply to the arguments, where these are the files.
-use Rattle.std.specs.Prelude.{◌≡◌, ℕ, ◌<◌, ◌≤◌, ◌⊎◌, List, length, Some, None, IsSomeAnd}
+use Rattle.std.specs.Prelude.{◌≡◌, ℕ, ◌<◌, ◌≤◌, List, length, Some, None, IsSomeAnd}
 use Rattle.hold_limits.specs.Problem.{Problem}
 use Rattle.hold_limits.specs.Placement.{IsBest}
 use Rattle.hold_limits.specs.Faults.{hold_fault, task_fault}
@@ -15,15 +15,17 @@ use Rattle.certificate.specs.declared.parts.Certificate.{Certificate}
 use Rattle.cert_checker.specs.Claims.{HasNoPlacement, IsGoodFor}
 use Rattle.cert_checker.specs.FirstReason.{IsFirstReason}
 use Rattle.cert_checker.specs.declared.reject.Reject.{Reject}
+use Rattle.tree_certificate.specs.Listed.{ListedTrees}
 use Rattle.placer.specs.Near.{AreMoreThan, IsNear, IsNearCertificate}
 use Rattle.placer.specs.AnswerText.{evidence_text, budget_text}
 use Rattle.generated_load.specs.Load.{generated_problem}
 use Rattle.load_io.specs.Shelf.{Files}
 use Rattle.loadctl.specs.declared.ending.Outcome.{Outcome}
-use Rattle.loadctl.specs.declared.ending.Outcome.TheVariants.{Done, Usage, BadInput, NothingFits, OverBudget, Rejected}
+use Rattle.loadctl.specs.declared.ending.Outcome.TheVariants.{Done, Usage, BadInput, NothingFits, OverBudget, Undecided, Rejected}
 use Rattle.loadctl.specs.Arguments.{Job, IsCommand, AreInvalid, usual_budget}
-use Rattle.loadctl.specs.Arguments.Job.{place, check, generate}
+use Rattle.loadctl.specs.Arguments.Job.{place, check, best, check_trees, generate}
 use Rattle.loadctl.specs.ReplyText.{longest_task, longest_certificate, IsFaultLine, IsCertificateFaultLine, long_text, usage_text, good_text, rejected_text, plan_summary, none_summary, budget_summary}
+use Rattle.loadctl.specs.TreeReply.{AreTreesIn, IsTreeRefusal, IsTreePlacing, IsTreeJudgement}
 
 -- Files -----------------------------------------------------------------------------------------
 
@@ -71,6 +73,12 @@ IsCertificateFile files name t c = Holds files name (λ bytes. IsCertificateIn t
 abbrev pub IsRefusedCertificate : Files → List ℕ → Problem → List ℕ → Type 0
 IsRefusedCertificate files name t line = Holds files name (λ bytes. IsCertificateRefusal t bytes line)
 
+abbrev pub IsTreeFile : Files → List ℕ → Problem → ListedTrees → Type 0
+IsTreeFile files name t c = Holds files name (λ bytes. AreTreesIn t bytes c)
+
+abbrev pub AreRefusedTrees : Files → List ℕ → Problem → List ℕ → Type 0
+AreRefusedTrees files name t line = Holds files name (λ bytes. IsTreeRefusal t bytes line)
+
 -- Answers ---------------------------------------------------------------------------------------
 
 -- the near certificate of the task, of which no more prefixes are near than the budget
@@ -110,6 +118,10 @@ pub data IsAnswer (files : Files) : Job → Outcome → List ℕ → Type 0 wher
       → IsAnswer files (place task budget) outcome text
   judged : (task certificate : List ℕ) (t : Problem) (c : Certificate) (outcome : Outcome) (text : List ℕ) → IsTaskFile files task t
       → IsCertificateFile files certificate t c → IsJudgement t c outcome text → IsAnswer files (check task certificate) outcome text
+  placed_by_trees : (task : List ℕ) (looks : ℕ) (t : Problem) (outcome : Outcome) (text : List ℕ) → IsTaskFile files task t
+      → IsTreePlacing t looks outcome text → IsAnswer files (best task looks) outcome text
+  trees_judged : (task certificate : List ℕ) (t : Problem) (c : ListedTrees) (outcome : Outcome) (text : List ℕ) → IsTaskFile files task t
+      → IsTreeFile files certificate t c → IsTreeJudgement t c outcome text → IsAnswer files (check_trees task certificate) outcome text
   summed : (number : ℕ) (outcome : Outcome) (text : List ℕ) → IsSummary number outcome text → IsAnswer files (generate number) outcome text
 
 -- the first file of a job that is refused, and its line
@@ -118,6 +130,10 @@ pub data IsBadInput (files : Files) : Job → List ℕ → Type 0 where
   bad_checked_task : (task certificate line : List ℕ) → IsRefusedTask files task line → IsBadInput files (check task certificate) line
   bad_certificate : (task certificate : List ℕ) (t : Problem) (line : List ℕ) → IsTaskFile files task t → IsRefusedCertificate files certificate t line
       → IsBadInput files (check task certificate) line
+  bad_best_task : (task : List ℕ) (looks : ℕ) (line : List ℕ) → IsRefusedTask files task line → IsBadInput files (best task looks) line
+  bad_task_of_trees : (task certificate line : List ℕ) → IsRefusedTask files task line → IsBadInput files (check_trees task certificate) line
+  bad_trees : (task certificate : List ℕ) (t : Problem) (line : List ℕ) → IsTaskFile files task t → AreRefusedTrees files certificate t line
+      → IsBadInput files (check_trees task certificate) line
 
 -- the reply to the arguments: an outcome and its text
 pub data IsReply (arguments : List (List ℕ)) (files : Files) : Outcome → List ℕ → Type 0 where
@@ -132,6 +148,8 @@ pub data IsReply (arguments : List (List ℕ)) (files : Files) : Outcome → Lis
 abbrev pub HasInput : Files → Job → Type 0
 HasInput files (place task budget) = (t : Problem) × IsTaskFile files task t
 HasInput files (check task certificate) = (t : Problem) × (c : Certificate) × IsTaskFile files task t × IsCertificateFile files certificate t c
+HasInput files (best task looks) = (t : Problem) × IsTaskFile files task t
+HasInput files (check_trees task certificate) = (t : Problem) × (c : ListedTrees) × IsTaskFile files task t × IsTreeFile files certificate t c
 HasInput files (generate number) = Unit {0}
 
 -- the arguments are a command whose files are there and right
@@ -147,4 +165,5 @@ pub data IsAnswered : Outcome → Type 0 where
   is_done : IsAnswered Done
   is_nothing_fits : IsAnswered NothingFits
   is_over_budget : IsAnswered OverBudget
+  is_undecided : IsAnswered Undecided
   is_rejected : IsAnswered Rejected

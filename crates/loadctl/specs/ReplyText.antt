@@ -11,6 +11,7 @@ use Rattle.text_lines.specs.Lines.{line_of, text_of}
 use Rattle.problem_text.specs.declared.fault.TextFault.{TextFault}
 use Rattle.problem_text.specs.declared.fault.TextFault.TheVariants as text
 use Rattle.plan_text.specs.PlanText.{one_line, balance_lines}
+use Rattle.certificate.specs.Evidence.{claimed}
 use Rattle.certificate.specs.CertificateText.{path_line}
 use Rattle.certificate.specs.declared.fault.CertFault.{CertFault}
 use Rattle.certificate.specs.declared.fault.CertFault.TheVariants as cert
@@ -19,6 +20,13 @@ use Rattle.certificate.specs.declared.parts.Claim.TheVariants.{Best, NoneFits}
 use Rattle.certificate.specs.declared.parts.Certificate.{Certificate}
 use Rattle.cert_checker.specs.declared.reject.Reject.{Reject}
 use Rattle.cert_checker.specs.declared.reject.Reject.TheVariants.{NotAPlacement, CutOrder, CutNotViable, CutWeak, Nearer, Exists, MoreExpanded}
+use Rattle.tree_certificate.specs.Listed.{ListedTrees}
+use Rattle.tree_certificate.specs.TreeText.{tree_text}
+use Rattle.tree_certificate.specs.declared.fault.TreeFault.{TreeFault}
+use Rattle.tree_certificate.specs.declared.fault.TreeFault.TheVariants as tree
+use Rattle.tree_checker.specs.declared.rejection.TreeRejection.{TreeRejection}
+use Rattle.tree_checker.specs.declared.rejection.TreeRejection.TheVariants as wrong
+use Rattle.placer.specs.AnswerText.{claim_text}
 use Rattle.generated_load.specs.Load.{generated_problem}
 use Rattle.loadctl.specs.Arguments.{usual_budget}
 
@@ -78,25 +86,50 @@ IsCertificateFaultLine (cert.Line n) line = line ≡ input_text (codes "LINE") n
 IsCertificateFaultLine cert.NoEnd line = line ≡ one_line (codes "INPUT" ∷ codes "END" ∷ [])
 IsCertificateFaultLine cert.NoMemory line = ⊥
 
+-- the same for a fault of the text of a certificate of trees
+abbrev pub IsTreeFaultLine : TreeFault → List ℕ → Type 0
+IsTreeFaultLine tree.NoStart line = line ≡ one_line (codes "INPUT" ∷ codes "START" ∷ [])
+IsTreeFaultLine (tree.Line n) line = line ≡ input_text (codes "LINE") n
+IsTreeFaultLine tree.NoEnd line = line ≡ one_line (codes "INPUT" ∷ codes "END" ∷ [])
+IsTreeFaultLine tree.NoMemory line = ⊥
+
 -- Judged certificates ---------------------------------------------------------------------------
 
 abbrev pub good_text : Claim → List ℕ
 good_text (Best path) = one_line (codes "GOOD" ∷ codes "BEST" ∷ [])
 good_text NoneFits = one_line (codes "GOOD" ∷ codes "NONE" ∷ [])
 
--- a reason with the place of a cut
-abbrev pub rejected_cut_text : ℕ → ℕ → List ℕ
-rejected_cut_text reason at = one_line (codes "REJECTED" ∷ number_text reason ∷ number_text at ∷ [])
+-- a reason with a place
+abbrev pub rejected_at_text : ℕ → ℕ → List ℕ
+rejected_at_text reason at = one_line (codes "REJECTED" ∷ number_text reason ∷ number_text at ∷ [])
 
 -- the reason with its place, or with the names of the positions of its path
 abbrev pub rejected_text : Problem → Reject → List ℕ
 rejected_text t NotAPlacement = one_line (codes "REJECTED 1" ∷ [])
-rejected_text t (CutOrder at) = rejected_cut_text 2 at
-rejected_text t (CutNotViable at) = rejected_cut_text 3 at
-rejected_text t (CutWeak at) = rejected_cut_text 4 at
+rejected_text t (CutOrder at) = rejected_at_text 2 at
+rejected_text t (CutNotViable at) = rejected_at_text 3 at
+rejected_text t (CutWeak at) = rejected_at_text 4 at
 rejected_text t (Nearer path) = text_of (path_line (codes "REJECTED 5") t.hold.positions path.items ∷ [])
 rejected_text t (Exists path) = text_of (path_line (codes "REJECTED 6") t.hold.positions path.items ∷ [])
 rejected_text t MoreExpanded = one_line (codes "REJECTED 7" ∷ [])
+
+-- the line for the reason against a certificate of trees, with its places; out of memory has none
+abbrev pub IsTreeRejectionLine : TreeRejection → List ℕ → Type 0
+IsTreeRejectionLine wrong.NotAPlacement line = line ≡ one_line (codes "REJECTED 1" ∷ [])
+IsTreeRejectionLine (wrong.NotAClique at) line = line ≡ rejected_at_text 2 at
+IsTreeRejectionLine (wrong.WrongPrices at) line = line ≡ rejected_at_text 3 at
+IsTreeRejectionLine (wrong.WrongOperation number at) line = line ≡ one_line (codes "REJECTED 4" ∷ number_text number ∷ number_text at ∷ [])
+IsTreeRejectionLine (wrong.WrongSibling at) line = line ≡ rejected_at_text 5 at
+IsTreeRejectionLine wrong.NoMemory line = ⊥
+
+-- Placements by trees ---------------------------------------------------------------------------
+
+-- what is claimed, and then the certificate of trees for it
+abbrev pub tree_evidence_text : Problem → ListedTrees → List ℕ
+tree_evidence_text t c = claim_text t (claimed c.claim) ++ tree_text t.hold.positions c
+
+abbrev pub undecided_text : ℕ → List ℕ
+undecided_text looks = one_line (codes "UNDECIDED" ∷ number_text looks ∷ [])
 
 -- Summaries of generated loads ------------------------------------------------------------------
 

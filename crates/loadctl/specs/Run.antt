@@ -4,7 +4,7 @@ use Rattle.desk_base.specs.Faults.{Rose}
 use Rattle.load_io.specs.Shelf.{Files}
 use Rattle.load_io.specs.Sink.{Appends, AppendsPart}
 use Rattle.loadctl.specs.declared.ending.Outcome.{Outcome}
-use Rattle.loadctl.specs.declared.ending.Outcome.TheVariants.{Done, Usage, BadInput, NothingFits, OverBudget, Rejected}
+use Rattle.loadctl.specs.declared.ending.Outcome.TheVariants.{Done, Usage, BadInput, NothingFits, OverBudget, Undecided, Rejected}
 use Rattle.loadctl.specs.declared.ending.Stop.{Stop}
 use Rattle.loadctl.specs.declared.ending.Stop.TheVariants.{ReadFault, WriteFault, NoMemory}
 use Rattle.loadctl.specs.Arguments.{AreInvalid}
@@ -18,6 +18,7 @@ exit_status (Ok Usage) = 2
 exit_status (Ok BadInput) = 3
 exit_status (Ok NothingFits) = 4
 exit_status (Ok OverBudget) = 5
+exit_status (Ok Undecided) = 5
 exit_status (Ok Rejected) = 10
 exit_status (Err ReadFault) = 6
 exit_status (Err WriteFault) = 7

@@ -2,7 +2,7 @@
 
 ghost use Rattle.std.specs.Prelude.{◌≡◌, ◌≤◌, ◌<◌, ◌^◌, ◌↔◌, ◌∷◌, [], All, IsTrue, IfSome, IfNone, ℕ, string_bytes};
 ghost use Rattle.mass_units.specs.Spelling.{number_text};
-ghost use Rattle.loadctl.specs.Arguments.{arguments_of, greatest_budget, BeginsWithMinus, Job, AskFor, IsCommand, AreInvalid};
+ghost use Rattle.loadctl.specs.Arguments.{arguments_of, greatest_budget, greatest_looks, BeginsWithMinus, Job, AskFor, IsCommand, AreInvalid};
 ghost use Rattle.loadctl.specs.Commands.{job_of};
 
 use mass_units::{read_long_number, read_number};
@@ -12,6 +12,11 @@ pub const USUAL_BUDGET: u32 = 20_000;
 
 const GREATEST_BUDGET: u32 = 50_000;
 
+/// How many choices a search by trees looks at if the arguments do not say it.
+const USUAL_LOOKS: u32 = 20_000;
+
+const GREATEST_LOOKS: u32 = 1_000_000;
+
 /// What the arguments ask for.
 #[derive(Clone, Copy, Debug)]
 pub enum Command<'a> {
@@ -20,6 +25,11 @@ pub enum Command<'a> {
     Place { task: &'a str, budget: u32 },
     /// `check TASK CERTIFICATE`: whether the certificate in a file is good for the task in another.
     Check { task: &'a str, certificate: &'a str },
+    /// `best TASK` or `best TASK LOOKS`: the best placement of the task in a file, by a search that looks at so many
+    /// choices at most.
+    Best { task: &'a str, looks: u32 },
+    /// `bestcheck TASK CERTIFICATE`: whether the certificate of trees in a file is good for the task in another.
+    CheckTrees { task: &'a str, certificate: &'a str },
     /// `gen NUMBER`: the best placement of the load that is made from the number.
     Generate { number: u32 },
 }
@@ -45,6 +55,13 @@ fn budget_from(argument: &str) -> Option<u32>
     read_number(argument.as_bytes()).filter(|budget| (1..=GREATEST_BUDGET).contains(budget))
 }
 
+fn looks_from(argument: &str) -> Option<u32>
+    ensures some { IfSome result (λ n. (argument.now ≡ number_text n) × (1 ≤ n) × (n ≤ greatest_looks)) }
+    ensures none { IfNone result ((n : ℕ) → 1 ≤ n → n ≤ greatest_looks → argument.now ≡ number_text n → ⊥) }
+{
+    read_number(argument.as_bytes()).filter(|looks| (1..=GREATEST_LOOKS).contains(looks))
+}
+
 fn number_from(argument: &str) -> Option<u32>
     ensures some { IfSome result (λ n. (argument.now ≡ number_text n) × (n < 2 ^ 32)) }
     ensures none { IfNone result ((n : ℕ) → n < 2 ^ 32 → argument.now ≡ number_text n → ⊥) }
@@ -52,7 +69,7 @@ fn number_from(argument: &str) -> Option<u32>
     read_long_number(argument.as_bytes())
 }
 
-/// `place TASK`, or `gen NUMBER`.
+/// `place TASK`, `best TASK`, or `gen NUMBER`.
 fn with_one_operand<'a>(name: &str, operand: &'a str) -> Option<Command<'a>>
     ensures some { IfSome result (λ command. AskFor (name.now ∷ operand.now ∷ []) (job_of command)) }
     ensures none { IfNone result ((job : Job) → AskFor (name.now ∷ operand.now ∷ []) job → ⊥) }
@@ -63,6 +80,12 @@ fn with_one_operand<'a>(name: &str, operand: &'a str) -> Option<Command<'a>>
             budget: USUAL_BUDGET,
         });
     }
+    if name == "best" {
+        return Some(Command::Best {
+            task: operand,
+            looks: USUAL_LOOKS,
+        });
+    }
     if name == "gen" {
         let number = number_from(operand)?;
         return Some(Command::Generate { number });
@@ -70,7 +93,7 @@ fn with_one_operand<'a>(name: &str, operand: &'a str) -> Option<Command<'a>>
     None
 }
 
-/// `place TASK BUDGET`, or `check TASK CERTIFICATE`.
+/// `place TASK BUDGET`, `best TASK LOOKS`, `check TASK CERTIFICATE`, or `bestcheck TASK CERTIFICATE`.
 fn with_two_operands<'a>(name: &str, task: &'a str, other: &'a str) -> Option<Command<'a>>
     ensures some { IfSome result
         (λ command. AskFor (name.now ∷ task.now ∷ other.now ∷ []) (job_of command)) }
@@ -80,8 +103,18 @@ fn with_two_operands<'a>(name: &str, task: &'a str, other: &'a str) -> Option<Co
         let budget = budget_from(other)?;
         return Some(Command::Place { task, budget });
     }
+    if name == "best" {
+        let looks = looks_from(other)?;
+        return Some(Command::Best { task, looks });
+    }
     if name == "check" {
         return Some(Command::Check {
+            task,
+            certificate: other,
+        });
+    }
+    if name == "bestcheck" {
+        return Some(Command::CheckTrees {
             task,
             certificate: other,
         });

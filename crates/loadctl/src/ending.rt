@@ -44,6 +44,8 @@ pub enum Outcome {
     NothingFits,
     /// More prefixes are near than the budget.
     OverBudget,
+    /// So many looks do not decide which placement is the best.
+    Undecided,
     /// The certificate is not good.
     Rejected,
 }

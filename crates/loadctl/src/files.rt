@@ -4,21 +4,26 @@ ghost use Rattle.std.specs.Prelude.{◌≡◌, ◌≢◌, ◌≤◌, Err, IfOk, 
 ghost use Rattle.desk_base.specs.Faults.{Rose};
 ghost use Rattle.load_io.specs.Shelf.{IsWhole, HasMoreThan};
 ghost use Rattle.loadctl.specs.ReplyText.{longest_task, longest_certificate, long_text};
-ghost use Rattle.loadctl.specs.Reply.{IsTaskIn, IsRefusal, IsCertificateIn, IsCertificateRefusal, IsTaskFile, IsRefusedTask, IsCertificateFile, IsRefusedCertificate};
+ghost use Rattle.tree_certificate.specs.Listed.{listed_trees};
+ghost use Rattle.loadctl.specs.TreeReply.{AreTreesIn, IsTreeRefusal};
+ghost use Rattle.loadctl.specs.Reply.{IsTaskIn, IsRefusal, IsCertificateIn, IsCertificateRefusal, IsTaskFile, IsRefusedTask, IsCertificateFile, IsRefusedCertificate, IsTreeFile, AreRefusedTrees};
 ghost use Rattle.loadctl.specs.Halts.{IfBadInput};
 
 use crate::ending::Halt;
-use crate::reply_text::{line_of_certificate_fault, line_of_fault, two_word_line};
+use crate::reply_text::{
+    line_of_certificate_fault, line_of_fault, line_of_tree_fault, two_word_line,
+};
 use certificate::{Certificate, read_certificate};
 use hold_limits::Task;
 use load_io::{Shelf, ShelfFault};
 use problem_text::read_task;
 use std::alloc::Global;
+use tree_certificate::{TreeCertificate, read_trees};
 
 /// The greatest length of a task's file, in bytes.
 pub const LONGEST_TASK: usize = 1_048_576;
 
-/// The greatest length of a certificate's file, in bytes.
+/// The greatest length of a certificate's file, in bytes, whatever its evidence is.
 const LONGEST_CERTIFICATE: usize = 805_306_368;
 
 /// The refusal of a file that is too long.
@@ -81,6 +86,19 @@ fn certificate_of(alloc: Global, task: &Task, bytes: &[u8]) -> Result<Certificat
     }
 }
 
+/// The certificate of trees that the bytes of a file spell.
+fn trees_of(alloc: Global, task: &Task, bytes: &[u8]) -> Result<TreeCertificate, Halt>
+    requires { length bytes.now ≤ longest_certificate }
+    ensures read { IfOk result (λ c. AreTreesIn task.now bytes.now (listed_trees c)) }
+    ensures refused { IfErr result (λ halt. IfBadInput halt (IsTreeRefusal task.now bytes.now)) }
+    ensures unread { result ≢ Err Halt.ReadFault }
+{
+    match read_trees(alloc, task, bytes) {
+        Ok(certificate) => Ok(certificate),
+        Err(fault) => Err(Halt::BadInput(line_of_tree_fault(alloc, fault)?)),
+    }
+}
+
 /// The task in a file.
 pub fn task_from<F: Shelf>(alloc: Global, shelf: &mut F, name: &str) -> Result<Task, Halt>
     ensures read { IfOk result (λ task. IfSome (F.files shelf.old) (λ files. IsTaskFile files name.now task)) }
@@ -111,4 +129,23 @@ pub fn certificate_from<F: Shelf>(
 {
     let bytes = bytes_from(alloc, shelf, name, LONGEST_CERTIFICATE)?;
     certificate_of(alloc, task, bytes.as_slice())
+}
+
+/// The certificate of trees in a file, for a task.
+pub fn trees_from<F: Shelf>(
+    alloc: Global,
+    shelf: &mut F,
+    task: &Task,
+    name: &str,
+) -> Result<TreeCertificate, Halt>
+    ensures read { IfOk result
+        (λ c. IfSome (F.files shelf.old) (λ files. IsTreeFile files name.now task.now (listed_trees c))) }
+    ensures refused { IfErr result (λ halt. IfBadInput halt
+        (λ line. IfSome (F.files shelf.old) (λ files. AreRefusedTrees files name.now task.now line))) }
+    ensures counted { result ≡ Err Halt.ReadFault → Rose (F.faults shelf.old) (F.faults shelf.new) }
+    ensures uncounted { result ≢ Err Halt.ReadFault → F.faults shelf.new ≡ F.faults shelf.old }
+    ensures same { F.files shelf.new ≡ F.files shelf.old }
+{
+    let bytes = bytes_from(alloc, shelf, name, LONGEST_CERTIFICATE)?;
+    trees_of(alloc, task, bytes.as_slice())
 }

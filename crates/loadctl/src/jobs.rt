@@ -15,8 +15,9 @@ ghost use Rattle.text_lines.specs.Lines.{text_of};
 
 use crate::arguments::{Command, USUAL_BUDGET};
 use crate::ending::{Halt, Outcome, Reply};
-use crate::files::{certificate_from, task_from};
+use crate::files::{certificate_from, task_from, trees_from};
 use crate::reply_text::{good_line, push_number_line, rejected_line};
+use crate::tree_jobs::{judgement_of_trees, placing_by_trees};
 use cert_checker::{NoPlan, Proven, check};
 use certificate::Certificate;
 use desk_base::NoMemory;
@@ -203,6 +204,15 @@ pub fn answer_to<F: Shelf>(
             let task = task_from(alloc, shelf, task)?;
             let certificate = certificate_from(alloc, shelf, &task, certificate)?;
             Ok(judgement(alloc, &task, &certificate)?)
+        }
+        Command::Best { task, looks } => {
+            let task = task_from(alloc, shelf, task)?;
+            Ok(placing_by_trees(alloc, &task, looks)?)
+        }
+        Command::CheckTrees { task, certificate } => {
+            let task = task_from(alloc, shelf, task)?;
+            let certificate = trees_from(alloc, shelf, &task, certificate)?;
+            Ok(judgement_of_trees(alloc, &task, &certificate)?)
         }
         Command::Generate { number } => Ok(summary(alloc, number)?),
     }

@@ -7,6 +7,7 @@ mod files;
 mod jobs;
 mod program;
 mod reply_text;
+mod tree_jobs;
 
 use load_io::{FileShelf, StdSink};
 use program::execute;

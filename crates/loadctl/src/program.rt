@@ -77,6 +77,7 @@ fn exit_status(ending: Result<Outcome, Stop>) -> u8
         Ok(Outcome::BadInput) => 3,
         Ok(Outcome::NothingFits) => 4,
         Ok(Outcome::OverBudget) => 5,
+        Ok(Outcome::Undecided) => 5,
         Ok(Outcome::Rejected) => 10,
         Err(Stop::ReadFault) => 6,
         Err(Stop::WriteFault) => 7,

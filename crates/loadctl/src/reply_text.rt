@@ -2,7 +2,7 @@
 
 ghost use Rattle.std.specs.Prelude.{◌≡◌, ◌++◌, ◌∷◌, [], IfOk, OnOk};
 ghost use Rattle.plan_text.specs.PlanText.{one_line};
-ghost use Rattle.loadctl.specs.ReplyText.{hold_fault_number, task_fault_number, input_text, number_line, good_text, rejected_cut_text, rejected_text, IsFaultLine, IsCertificateFaultLine};
+ghost use Rattle.loadctl.specs.ReplyText.{hold_fault_number, task_fault_number, input_text, number_line, good_text, rejected_at_text, rejected_text, undecided_text, IsFaultLine, IsCertificateFaultLine, IsTreeFaultLine, IsTreeRejectionLine};
 ghost use Rattle.text_lines.specs.Lines.{text_of};
 ghost use Rattle.certificate.specs.CertificateText.{path_line};
 
@@ -13,6 +13,8 @@ use hold_limits::{HoldFault, Path, Task, TaskFault};
 use problem_text::TextFault;
 use std::alloc::Global;
 use telex::Builder;
+use tree_certificate::TreeFault;
+use tree_checker::TreeRejection;
 
 /// A line of one word.
 pub fn word_line(alloc: Global, word: &[u8]) -> Result<Vec<u8>, NoMemory>
@@ -111,6 +113,18 @@ pub fn line_of_certificate_fault(alloc: Global, fault: CertFault) -> Result<Vec<
     }
 }
 
+/// The line that reports a fault of the text of a certificate of trees.
+pub fn line_of_tree_fault(alloc: Global, fault: TreeFault) -> Result<Vec<u8>, NoMemory>
+    ensures { IfOk result (λ text. IsTreeFaultLine fault text.items) }
+{
+    match fault {
+        TreeFault::NoStart => two_word_line(alloc, b"INPUT", b"START"),
+        TreeFault::Line(number) => input_line(alloc, b"LINE", number as u64),
+        TreeFault::NoEnd => two_word_line(alloc, b"INPUT", b"END"),
+        TreeFault::NoMemory => Err(NoMemory),
+    }
+}
+
 /// `GOOD BEST` or `GOOD NONE`.
 pub fn good_line(alloc: Global, claim: &Claim) -> Result<Vec<u8>, NoMemory>
     ensures { IfOk result (λ text. text.items ≡ good_text claim.now) }
@@ -122,8 +136,8 @@ pub fn good_line(alloc: Global, claim: &Claim) -> Result<Vec<u8>, NoMemory>
 }
 
 /// `REJECTED k AT`.
-fn rejected_cut(alloc: Global, reason: u64, at: usize) -> Result<Vec<u8>, NoMemory>
-    ensures { IfOk result (λ text. text.items ≡ rejected_cut_text reason at) }
+fn rejected_at(alloc: Global, reason: u64, at: usize) -> Result<Vec<u8>, NoMemory>
+    ensures { IfOk result (λ text. text.items ≡ rejected_at_text reason at) }
 {
     let mut out = Builder::new(alloc);
     out.text(b"REJECTED ")?;
@@ -150,11 +164,47 @@ pub fn rejected_line(alloc: Global, task: &Task, reason: &Reject) -> Result<Vec<
 {
     match reason {
         Reject::NotAPlacement => word_line(alloc, b"REJECTED 1"),
-        Reject::CutOrder(at) => rejected_cut(alloc, 2, *at),
-        Reject::CutNotViable(at) => rejected_cut(alloc, 3, *at),
-        Reject::CutWeak(at) => rejected_cut(alloc, 4, *at),
+        Reject::CutOrder(at) => rejected_at(alloc, 2, *at),
+        Reject::CutNotViable(at) => rejected_at(alloc, 3, *at),
+        Reject::CutWeak(at) => rejected_at(alloc, 4, *at),
         Reject::Nearer(path) => named_path(alloc, task, b"REJECTED 5", path),
         Reject::Exists(path) => named_path(alloc, task, b"REJECTED 6", path),
         Reject::MoreExpanded => word_line(alloc, b"REJECTED 7"),
     }
+}
+
+/// `REJECTED 4`, with the number of a tree and the place of an operation.
+fn rejected_operation(alloc: Global, tree: usize, at: usize) -> Result<Vec<u8>, NoMemory>
+    ensures { IfOk result (λ text. IsTreeRejectionLine (TreeRejection.WrongOperation tree at) text.items) }
+{
+    let mut out = Builder::new(alloc);
+    out.text(b"REJECTED 4 ")?;
+    out.count(tree as u64)?;
+    out.text(b" ")?;
+    out.count(at as u64)?;
+    out.end_line()?;
+    Ok(out.finish())
+}
+
+/// `REJECTED`, with the number of the reason against a certificate of trees, and with its places.
+pub fn rejected_trees_line(alloc: Global, reason: TreeRejection) -> Result<Vec<u8>, NoMemory>
+    ensures { IfOk result (λ text. IsTreeRejectionLine reason text.items) }
+{
+    match reason {
+        TreeRejection::NotAPlacement => word_line(alloc, b"REJECTED 1"),
+        TreeRejection::NotAClique(at) => rejected_at(alloc, 2, at),
+        TreeRejection::WrongPrices(at) => rejected_at(alloc, 3, at),
+        TreeRejection::WrongOperation(tree, at) => rejected_operation(alloc, tree, at),
+        TreeRejection::WrongSibling(at) => rejected_at(alloc, 5, at),
+        TreeRejection::NoMemory => Err(NoMemory),
+    }
+}
+
+/// `UNDECIDED` with the number of looks.
+pub fn undecided_line(alloc: Global, looks: u32) -> Result<Vec<u8>, NoMemory>
+    ensures { IfOk result (λ text. text.items ≡ undecided_text looks) }
+{
+    let mut out = Builder::new(alloc);
+    push_number_line(&mut out, b"UNDECIDED", u64::from(looks))?;
+    Ok(out.finish())
 }

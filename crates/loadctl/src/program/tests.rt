@@ -158,6 +158,51 @@ expanded 1
 END
 ";
 
+const WORKED_PLAN: &str = "PLAN
+place AKE10001XX 12
+place AKE10002XX 41
+index 49.20000
+distance 0.80000
+CERTIFICATE 3
+best 12 41
+";
+
+const TREES: &str = "CERTIFICATE 3
+best 12 41
+low ; ;
+high ; ;
+nearer
+";
+
+const TREES_OF_NONE: &str = "CERTIFICATE 3
+none
+low ; ;
+high ; ;
+any
+";
+
+const FORWARD_TREE: &str = "split 0 11 12
+split 1 11 12
+leaf 1
+split 0 11
+leaf 1
+residue
+";
+
+const AFT_TREE: &str = "split 1 41 42
+leaf 0
+split 0 41
+residue
+leaf 0
+";
+
+const SIBLINGS: &str = "least 0 11
+leaf 1
+least 1 11
+leaf 1
+END
+";
+
 // The arguments, the parts of the file `t`, and the exit status and text of the run.
 type Row<'a> = (&'a [&'a str], &'a [&'a str], u8, &'a str);
 
@@ -170,27 +215,37 @@ fn args_from(alloc: Global, texts: &[&str]) -> Result<Args, Fail> {
     Ok(args.into_iter())
 }
 
-// A shelf with the worked task in the file `t` and this text in the file `c`.
-fn shelf_with_certificate(alloc: Global, text: &str) -> Result<MemoryShelf, Fail> {
-    let mut task = String::new(alloc);
-    for part in [POSITIONS, ITEMS, INDICES] {
-        task.push_str(part)?;
-    }
-    let mut files = Vec::new(alloc);
-    files.push((String::from_str(alloc, "t")?, task.into_bytes()))?;
-    let certificate = String::from_str(alloc, text)?;
-    files.push((String::from_str(alloc, "c")?, certificate.into_bytes()))?;
-    Ok(MemoryShelf::new(files, Vec::new(alloc)))
-}
-
-// A shelf with one file `t`, where the reads with the listed numbers fail.
-fn shelf_with(alloc: Global, parts: &[&str], fail: Vec<u64>) -> Result<MemoryShelf, Fail> {
+// The parts of a text, one after another.
+fn joined(alloc: Global, parts: &[&str]) -> Result<Vec<u8>, Fail> {
     let mut text = String::new(alloc);
     for part in parts {
         text.push_str(part)?;
     }
+    Ok(text.into_bytes())
+}
+
+// A shelf with the worked task in the file `t`, with these indices, and this text in the file `c`.
+fn shelf_with_text(alloc: Global, indices: &str, text: Vec<u8>) -> Result<MemoryShelf, Fail> {
+    let task = joined(alloc, &[POSITIONS, ITEMS, indices])?;
     let mut files = Vec::new(alloc);
-    files.push((String::from_str(alloc, "t")?, text.into_bytes()))?;
+    files.push((String::from_str(alloc, "t")?, task))?;
+    files.push((String::from_str(alloc, "c")?, text))?;
+    Ok(MemoryShelf::new(files, Vec::new(alloc)))
+}
+
+// The same with the text of these parts.
+fn shelf_with_certificate(
+    alloc: Global,
+    indices: &str,
+    parts: &[&str],
+) -> Result<MemoryShelf, Fail> {
+    shelf_with_text(alloc, indices, joined(alloc, parts)?)
+}
+
+// A shelf with one file `t`, where the reads with the listed numbers fail.
+fn shelf_with(alloc: Global, parts: &[&str], fail: Vec<u64>) -> Result<MemoryShelf, Fail> {
+    let mut files = Vec::new(alloc);
+    files.push((String::from_str(alloc, "t")?, joined(alloc, parts)?))?;
     Ok(MemoryShelf::new(files, fail))
 }
 
@@ -302,13 +357,136 @@ fn certificates_are_judged(rt: HostRuntime) -> Result<(), Fail> {
     ];
     let alloc = rt.alloc();
     for (text, status, printed) in rows {
-        let mut shelf = shelf_with_certificate(alloc, text)?;
+        let mut shelf = shelf_with_certificate(alloc, INDICES, &[text])?;
         let mut out = MemorySink::new(alloc, 100, Vec::new(alloc))?;
         let args = args_from(alloc, &["check", "t", "c"])?;
         assert_eq!(rt; execute(alloc, Ok(args), &mut shelf, &mut out), status);
         assert_eq!(rt; out.written(), printed.as_bytes());
     }
     Ok(())
+}
+
+// Judges certificates of trees for the worked task with these indices: their parts, the exit status and what is printed.
+fn check_trees(
+    rt: &impl Abort,
+    alloc: Global,
+    indices: &str,
+    rows: &[(&[&str], u8, &str)],
+) -> Result<(), Fail> {
+    for (i, (parts, status, printed)) in rows.iter().enumerate() {
+        let mut shelf = shelf_with_certificate(alloc, indices, parts)?;
+        let mut out = MemorySink::new(alloc, 100, Vec::new(alloc))?;
+        let args = args_from(alloc, &["bestcheck", "t", "c"])?;
+        let ended = execute(alloc, Ok(args), &mut shelf, &mut out);
+        assert_eq!(rt; ended, *status, "in row {i}");
+        assert_eq!(rt; out.written(), printed.as_bytes(), "in row {i}");
+    }
+    Ok(())
+}
+
+#[test]
+fn certificates_of_trees_are_judged(rt: HostRuntime) -> Result<(), Fail> {
+    let rows: [(&[&str], u8, &str); 6] = [
+        (&[TREES, FORWARD_TREE, AFT_TREE, SIBLINGS], 0, "GOOD BEST\n"),
+        (
+            &["PLAN\n", TREES, FORWARD_TREE, AFT_TREE, SIBLINGS],
+            0,
+            "GOOD BEST\n",
+        ),
+        (&[TREES, FORWARD_TREE, SIBLINGS], 10, "REJECTED 4 0 6\n"),
+        (
+            &[TREES, FORWARD_TREE, AFT_TREE, "residue\n", SIBLINGS],
+            10,
+            "REJECTED 4 0 11\n",
+        ),
+        (
+            &[TREES, FORWARD_TREE, AFT_TREE, "END\n"],
+            10,
+            "REJECTED 5 0\n",
+        ),
+        (
+            &[TREES_OF_NONE, FORWARD_TREE, AFT_TREE, "END\n"],
+            10,
+            "REJECTED 4 0 2\n",
+        ),
+    ];
+    check_trees(&rt, rt.alloc(), INDICES, &rows)
+}
+
+#[test]
+fn that_nothing_fits_is_shown_by_trees(rt: HostRuntime) -> Result<(), Fail> {
+    let rows: [(&[&str], u8, &str); 2] = [
+        (
+            &[TREES_OF_NONE, FORWARD_TREE, AFT_TREE, "END\n"],
+            0,
+            "GOOD NONE\n",
+        ),
+        (
+            &[TREES, FORWARD_TREE, AFT_TREE, SIBLINGS],
+            10,
+            "REJECTED 1\n",
+        ),
+    ];
+    check_trees(&rt, rt.alloc(), NARROW, &rows)
+}
+
+#[test]
+fn wrong_certificates_of_trees_are_refused(rt: HostRuntime) -> Result<(), Fail> {
+    let clique: &str = "CERTIFICATE 3\nbest 12 41\nclique 11 12\nnearer\nEND\n";
+    let price: &str = "CERTIFICATE 3\nbest 12 41\nlow 11 10000000000001 ; ;\nnearer\nEND\n";
+    let rows: [(&[&str], u8, &str); 6] = [
+        (&[clique], 10, "REJECTED 2 0\n"),
+        (&[price], 10, "REJECTED 3 0\n"),
+        (&[PLAN], 3, "INPUT START\n"),
+        (&["CERTIFICATE 3\nbest 12 41\nEND\n"], 3, "INPUT LINE 3\n"),
+        (&[TREES, FORWARD_TREE], 3, "INPUT END\n"),
+        (&[TREES, FORWARD_TREE, SIBLINGS, "\n"], 3, "INPUT LINE 17\n"),
+    ];
+    check_trees(&rt, rt.alloc(), INDICES, &rows)
+}
+
+// How `bestcheck` ends for the worked task with these indices and this text, and what it prints.
+fn judged(alloc: Global, indices: &str, text: Vec<u8>) -> Result<(u8, Vec<u8>), Fail> {
+    let mut shelf = shelf_with_text(alloc, indices, text)?;
+    let mut out = MemorySink::new(alloc, 100, Vec::new(alloc))?;
+    let args = args_from(alloc, &["bestcheck", "t", "c"])?;
+    let status = execute(alloc, Ok(args), &mut shelf, &mut out);
+    Ok((status, Vec::from_slice(alloc, out.written())?))
+}
+
+#[test]
+fn an_answer_of_best_is_good(rt: HostRuntime) -> Result<(), Fail> {
+    let rows: [(&str, u8, &str, &str); 2] = [
+        (INDICES, 0, WORKED_PLAN, "GOOD BEST\n"),
+        (NARROW, 4, "NONE\nCERTIFICATE 3\n", "GOOD NONE\n"),
+    ];
+    let alloc = rt.alloc();
+    for (indices, status, start, judgement) in rows {
+        let worked: &[&str] = &[POSITIONS, ITEMS, indices];
+        let (ended, answer) = run_of(alloc, &["best", "t"], worked, 1000)?;
+        assert_eq!(rt; ended, status);
+        assert!(rt; answer.as_slice().starts_with(start.as_bytes()));
+        let (ended, printed) = judged(alloc, indices, answer)?;
+        assert_eq!(rt; ended, 0);
+        assert_eq!(rt; printed.as_slice(), judgement.as_bytes());
+    }
+    Ok(())
+}
+
+#[test]
+fn best_refuses_what_place_refuses(rt: HostRuntime) -> Result<(), Fail> {
+    let worked: &[&str] = &[POSITIONS, ITEMS, INDICES];
+    let rows: [Row<'_>; 8] = [
+        (&["best"], worked, 2, "USAGE\n"),
+        (&["best", "t", "0"], worked, 2, "USAGE\n"),
+        (&["best", "t", "1000001"], worked, 2, "USAGE\n"),
+        (&["best", "t", "20000", "more"], worked, 2, "USAGE\n"),
+        (&["bestcheck", "t"], worked, 2, "USAGE\n"),
+        (&["best", "t"], &[POSITIONS, ITEMS, CUT], 3, "INPUT END\n"),
+        (&["bestcheck", "t", "t"], worked, 3, "INPUT START\n"),
+        (&["best", "u"], worked, 6, ""),
+    ];
+    check_rows(&rt, rt.alloc(), &rows)
 }
 
 #[test]

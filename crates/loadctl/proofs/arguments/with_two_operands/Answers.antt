@@ -1,7 +1,7 @@
 use Rattle.std.proofs.Common.{◌∷◌, [], ap, ap₂, sym}
 use Rattle.std.specs.Prelude.{codes}
 use Rattle.loadctl.proofs.ArgumentLemmas.{same_bytes}
-use Rattle.loadctl.specs.Arguments.AskFor.{place_within, check_certificate}
+use Rattle.loadctl.specs.Arguments.AskFor.{place_within, best_within, check_certificate, check_best}
 use Rattle.loadctl.proofs.arguments.with_two_operands.Goals as goal
 
 pub returns-then-eq-clause-some : goal.returns-then-eq-clause-some
@@ -11,4 +11,13 @@ returns-then-eq-clause-some c =
 
 pub returns-then-eq-2-clause-some : goal.returns-then-eq-2-clause-some
 returns-then-eq-2-clause-some c =
-    check_certificate c.args.task.now c.args.other.now (ap (λ name. name ∷ c.args.task.now ∷ c.args.other.now ∷ []) (same_bytes c.args.name.now (codes "check") (sym c.if-eq-2.ensures)))
+    let looks = c.in_ok-looks.ensures.some in
+    best_within c.args.task.now c.in_ok-looks.looks (ap₂ (λ name other. name ∷ c.args.task.now ∷ other ∷ []) (same_bytes c.args.name.now (codes "best") (sym c.if-eq-2.ensures)) looks.0) looks.1 looks.2
+
+pub returns-then-eq-3-clause-some : goal.returns-then-eq-3-clause-some
+returns-then-eq-3-clause-some c =
+    check_certificate c.args.task.now c.args.other.now (ap (λ name. name ∷ c.args.task.now ∷ c.args.other.now ∷ []) (same_bytes c.args.name.now (codes "check") (sym c.if-eq-3.ensures)))
+
+pub returns-then-eq-4-clause-some : goal.returns-then-eq-4-clause-some
+returns-then-eq-4-clause-some c =
+    check_best c.args.task.now c.args.other.now (ap (λ name. name ∷ c.args.task.now ∷ c.args.other.now ∷ []) (same_bytes c.args.name.now (codes "bestcheck") (sym c.if-eq-4.ensures)))

@@ -1,4 +1,4 @@
-use Rattle.std.proofs.Common.{◌≡◌, refl, subst, sym}
+use Rattle.std.proofs.Common.{refl, subst, sym}
 use Rattle.loadctl.specs.declared.ending.Outcome.TheVariants.{Done, Rejected}
 use Rattle.loadctl.specs.Reply.{IsJudgement}
 use Rattle.loadctl.specs.Reply.IsJudgement.{good, rejected}

@@ -1,4 +1,4 @@
-use Rattle.std.proofs.Common.{◌≡◌, ◌++◌, ◌∷◌, [], ℕ, List, Some, ap, ap₂, sym, ◌∙◌}
+use Rattle.std.proofs.Common.{◌≡◌, ◌++◌, ◌∷◌, [], ℕ, List, ap, ap₂, sym, ◌∙◌}
 use Rattle.std.specs.Prelude.{codes}
 use Rattle.text_lines.specs.Lines.{text_of}
 use Rattle.plan_text.specs.PlanText.{balance_lines}
