@@ -1,4 +1,5 @@
 pub mod ArgumentLemmas
+pub mod DeskLemmas
 pub mod FileLemmas
 pub mod JobLemmas
 pub mod TreeJobLemmas

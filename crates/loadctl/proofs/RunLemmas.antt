@@ -83,22 +83,6 @@ run-stopped X arguments before after result NoMemory is unread unwritten counted
   refused = λ _ _ _. tt;
 }
 
--- memory ran out before anything else happened
-pub exit-no_memory : (arguments : List (List ℕ)) (outside : Outside) (status : ℕ) → status ≡ exit_status (Err NoMemory) → ExitsWith arguments outside outside status
-exit-no_memory arguments outside status is = record {
-  ending = Err NoMemory;
-  status_is = is;
-  run = record {
-    ends = no_memory refl refl refl;
-    same_files = refl;
-    usage = λ e. cc;
-    invalid = λ _. tt;
-    unread = λ _ e. cc;
-    complete = λ _ _ _. tt;
-    refused = λ _ _ _. tt;
-  };
-}
-
 pub IfOk-always : {X E : Type 0} (r : Result X E) (P : X → Type 0) → ((x : X) → P x) → IfOk r P
 IfOk-always (Ok x) P always = always x
 IfOk-always (Err e) P always = tt

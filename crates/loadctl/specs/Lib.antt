@@ -6,3 +6,4 @@ pub mod ReplyText
 pub mod TreeReply
 pub mod Reply
 pub mod Run
+pub mod Desk

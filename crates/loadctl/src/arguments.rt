@@ -40,7 +40,8 @@ fn begins_with_minus(argument: &str) -> bool
     argument.as_bytes().first() == Some(&b'-')
 }
 
-fn are_plain(arguments: &[String]) -> bool
+/// Whether no argument begins with a minus.
+pub fn are_plain(arguments: &[String]) -> bool
     ensures { IsTrue result ↔ All (λ argument. BeginsWithMinus (string_bytes argument) → ⊥) arguments.now }
 {
     arguments

@@ -1,7 +1,20 @@
 //! How a run ends.
 
 use desk_base::NoMemory;
+use flight_history::Entry;
+use flight_state::FlightState;
+use keeper::Keeper;
 use thiserror::Error;
+
+/// What a run leaves: its exit status, the keeper of the rows, and the flights that its office opened with and the
+/// office's history, which are empty where no office was opened.
+#[derive(Drop)]
+pub struct RanOne<K: Keeper> {
+    pub status: u8,
+    pub keeper: K,
+    pub opening: Vec<FlightState>,
+    pub history: Vec<Entry>,
+}
 
 /// What a run is to print, and how it then ends.
 #[derive(Debug, Drop)]

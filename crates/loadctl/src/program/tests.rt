@@ -1,6 +1,8 @@
 // Whole runs over a file and an output in memory.
 use super::*;
-use load_io::{FileShelf, MemoryShelf, MemorySink};
+use keeper::MemoryKeeper;
+use load_io::{FileShelf, MemoryShelf, MemorySink, SureSource};
+use placer::Direct;
 use std::process::Abort;
 use std::test::Fail;
 
@@ -249,6 +251,18 @@ fn shelf_with(alloc: Global, parts: &[&str], fail: Vec<u64>) -> Result<MemoryShe
     Ok(MemoryShelf::new(files, fail))
 }
 
+// The exit status of a run with nothing on its input and no rows.
+fn status_of<F: Shelf, O: Sink>(
+    alloc: Global,
+    args: io::Result<Args>,
+    shelf: &mut F,
+    out: &mut O,
+) -> u8 {
+    let mut input = SureSource::new(Vec::new(alloc));
+    let keeper = MemoryKeeper::new(alloc);
+    execute(&(), alloc, args, shelf, &mut input, out, keeper, &Direct).status
+}
+
 // The exit status of a run with these arguments, and what it printed in `room` bytes.
 fn run_of(
     alloc: Global,
@@ -259,7 +273,7 @@ fn run_of(
     let mut shelf = shelf_with(alloc, parts, Vec::new(alloc))?;
     let mut out = MemorySink::new(alloc, room, Vec::new(alloc))?;
     let args = args_from(alloc, texts)?;
-    let status = execute(alloc, Ok(args), &mut shelf, &mut out);
+    let status = status_of(alloc, Ok(args), &mut shelf, &mut out);
     Ok((status, Vec::from_slice(alloc, out.written())?))
 }
 
@@ -360,7 +374,7 @@ fn certificates_are_judged(rt: HostRuntime) -> Result<(), Fail> {
         let mut shelf = shelf_with_certificate(alloc, INDICES, &[text])?;
         let mut out = MemorySink::new(alloc, 100, Vec::new(alloc))?;
         let args = args_from(alloc, &["check", "t", "c"])?;
-        assert_eq!(rt; execute(alloc, Ok(args), &mut shelf, &mut out), status);
+        assert_eq!(rt; status_of(alloc, Ok(args), &mut shelf, &mut out), status);
         assert_eq!(rt; out.written(), printed.as_bytes());
     }
     Ok(())
@@ -377,7 +391,7 @@ fn check_trees(
         let mut shelf = shelf_with_certificate(alloc, indices, parts)?;
         let mut out = MemorySink::new(alloc, 100, Vec::new(alloc))?;
         let args = args_from(alloc, &["bestcheck", "t", "c"])?;
-        let ended = execute(alloc, Ok(args), &mut shelf, &mut out);
+        let ended = status_of(alloc, Ok(args), &mut shelf, &mut out);
         assert_eq!(rt; ended, *status, "in row {i}");
         assert_eq!(rt; out.written(), printed.as_bytes(), "in row {i}");
     }
@@ -430,13 +444,17 @@ fn that_nothing_fits_is_shown_by_trees(rt: HostRuntime) -> Result<(), Fail> {
     check_trees(&rt, rt.alloc(), NARROW, &rows)
 }
 
+// Two positions that do not exclude each other.
+const NO_CLIQUE: &str = "CERTIFICATE 3\nbest 12 41\nclique 11 12\nnearer\nEND\n";
+
+// A price beyond its bound.
+const NO_PRICE: &str = "CERTIFICATE 3\nbest 12 41\nlow 11 10000000000001 ; ;\nnearer\nEND\n";
+
 #[test]
 fn wrong_certificates_of_trees_are_refused(rt: HostRuntime) -> Result<(), Fail> {
-    let clique: &str = "CERTIFICATE 3\nbest 12 41\nclique 11 12\nnearer\nEND\n";
-    let price: &str = "CERTIFICATE 3\nbest 12 41\nlow 11 10000000000001 ; ;\nnearer\nEND\n";
     let rows: [(&[&str], u8, &str); 6] = [
-        (&[clique], 10, "REJECTED 2 0\n"),
-        (&[price], 10, "REJECTED 3 0\n"),
+        (&[NO_CLIQUE], 10, "REJECTED 2 0\n"),
+        (&[NO_PRICE], 10, "REJECTED 3 0\n"),
         (&[PLAN], 3, "INPUT START\n"),
         (&["CERTIFICATE 3\nbest 12 41\nEND\n"], 3, "INPUT LINE 3\n"),
         (&[TREES, FORWARD_TREE], 3, "INPUT END\n"),
@@ -450,7 +468,7 @@ fn judged(alloc: Global, indices: &str, text: Vec<u8>) -> Result<(u8, Vec<u8>), 
     let mut shelf = shelf_with_text(alloc, indices, text)?;
     let mut out = MemorySink::new(alloc, 100, Vec::new(alloc))?;
     let args = args_from(alloc, &["bestcheck", "t", "c"])?;
-    let status = execute(alloc, Ok(args), &mut shelf, &mut out);
+    let status = status_of(alloc, Ok(args), &mut shelf, &mut out);
     Ok((status, Vec::from_slice(alloc, out.written())?))
 }
 
@@ -543,7 +561,7 @@ fn arguments_that_are_not_text_are_invalid(rt: HostRuntime) -> Result<(), Fail> 
         let mut shelf = shelf_with(alloc, &[], Vec::new(alloc))?;
         let mut out = MemorySink::new(alloc, 100, Vec::new(alloc))?;
         let args = Err(io::Error::from(kind));
-        assert_eq!(rt; execute(alloc, args, &mut shelf, &mut out), status);
+        assert_eq!(rt; status_of(alloc, args, &mut shelf, &mut out), status);
         assert_eq!(rt; out.written(), printed);
     }
     Ok(())
@@ -558,7 +576,7 @@ fn failures_outside_end_the_run(rt: HostRuntime) -> Result<(), Fail> {
     let mut shelf = shelf_with(alloc, &[INDICES], vec![in alloc; 1]?)?;
     let mut out = MemorySink::new(alloc, 100, Vec::new(alloc))?;
     let args = args_from(alloc, &["place", "t"])?;
-    assert_eq!(rt; execute(alloc, Ok(args), &mut shelf, &mut out), 6);
+    assert_eq!(rt; status_of(alloc, Ok(args), &mut shelf, &mut out), 6);
     assert_eq!(rt; out.written().len(), 0);
     Ok(())
 }
@@ -574,7 +592,7 @@ fn a_file_that_is_too_long_is_refused(rt: HostRuntime) -> Result<(), Fail> {
     let mut shelf = MemoryShelf::new(files, Vec::new(alloc));
     let mut out = MemorySink::new(alloc, 100, Vec::new(alloc))?;
     let args = args_from(alloc, &["place", "t"])?;
-    assert_eq!(rt; execute(alloc, Ok(args), &mut shelf, &mut out), 3);
+    assert_eq!(rt; status_of(alloc, Ok(args), &mut shelf, &mut out), 3);
     assert_eq!(rt; out.written(), b"INPUT LONG\n".as_slice());
     Ok(())
 }
@@ -600,7 +618,7 @@ fn a_real_file_that_does_not_exist_ends_the_run(rt: HostRuntime) -> Result<(), F
     let mut shelf = FileShelf::new(rt);
     let mut out = MemorySink::new(rt.alloc(), 100, Vec::new(rt.alloc()))?;
     let args = args_from(rt.alloc(), &["place", "there/is/no/such.task"])?;
-    assert_eq!(rt; execute(rt.alloc(), Ok(args), &mut shelf, &mut out), 6);
+    assert_eq!(rt; status_of(rt.alloc(), Ok(args), &mut shelf, &mut out), 6);
     assert_eq!(rt; out.written().len(), 0);
     Ok(())
 }
