@@ -1,14 +1,9 @@
 // The file of the worked day, edits of it key by key, and files whose keys describe no lawful aircraft.
-use crate::tables::{edited, field_at};
-use crate::worked_day::DAIAB;
+use crate::tables::{edited, field_at, text_of};
+use crate::worked_day::{DAIAB, daiab};
 use aircraft_file::{Aircraft, read_aircraft};
-use envelope::Corner;
-use fuel_table::FuelRow;
-use hold_limits::Position;
-use mass_limits::Certified;
-use mass_units::{Chord, Kg, Ticks};
-use payload::{Averages, Zone};
-use std::alloc::Global;
+use hold_limits::{Fit, Hold, Position};
+use std::alloc::{AllocError, Global};
 use std::test::Fail;
 
 /// Keys, a row for each: its number, its text in the file, a text without it, and a text where it is not in its form. A `~`
@@ -76,11 +71,60 @@ key 36 is wrong|[hold]|[hold]~lateral = 0~left = ["99"]
 key 37 is wrong|[hold]|[hold]~lateral = 0~right = ["12", "99"]
 key 37 is wrong|[hold]|[hold]~lateral = 0~right = ["12", "12"]"#;
 
+/// The file's records, as they are read.
+const RECORDS: &str =
+    "Chord { k: Ticks(5000000), c: 1000, reference_mm: 18850, lemac_mm: 17800, mac_mm: 4190 }
+Certified { ramp: Kg(73900), zero_fuel: Kg(62500), take_off: Kg(73500), landing: Kg(66000) }
+Averages { adult: Kg(84), child: Kg(35), infant: Kg(10), bag: Kg(15) }
+[Zone { capacity: 60, influence: -700 }, Zone { capacity: 90, influence: 500 }]";
+
+/// The file's positions, as they are read: the name; the compartment, the influence and whether it is a bulk position; and
+/// what it accepts.
+const POSITIONS: &[u8] = b"11 (1, -600, false) AKE 1500
+12 (1, -400, false) AKE 1500
+41 (4, 400, false) AKE 1500
+42 (4, 600, false) AKE 1500
+51 (5, 900, true) ";
+
+/// The file's limits of the hold, as they are read: pairs, combined, cumulative and lateral ones, and the sides.
+const LIMITS_READ: &str = "[]
+[Combined { places: Places { list: [0, 1] }, most: Kg(2500) }]
+[Cumulative { forward: false, place: 2, most: Kg(4500) }]
+None
+[]";
+
+/// The same with a forward limit and a pair.
+const FORWARD_READ: &str = "[(0, 3)]
+[Combined { places: Places { list: [0, 1] }, most: Kg(2500) }]
+[Cumulative { forward: true, place: 1, most: Kg(3000) }, Cumulative { forward: false, place: 2, most: Kg(4500) }]
+None
+[]";
+
+/// The lateral limit with positions on both sides.
+const SIDES_READ: &str = "
+Some(Lateral { most: Kg(500), sides: Sides { list: [(0, true), (1, false), (2, false), (3, true)] } })
+[(0, true), (1, false), (2, false), (3, true)]";
+
+/// The lateral limit with a position on the left alone.
+const LEFT_READ: &str = "
+Some(Lateral { most: Kg(1000000), sides: Sides { list: [(4, false)] } })
+[(4, false)]";
+
+/// The file's fuel table, and sides of its envelopes, as they are read.
+const BALANCE_READ: &str =
+    "[FuelRow { fuel: Kg(0), index: Ticks(0) }, FuelRow { fuel: Kg(3000), index: Ticks(-1000) }, \
+    FuelRow { fuel: Kg(9000), index: Ticks(-121000) }, FuelRow { fuel: Kg(20000), index: Ticks(-231000) }]
+[Corner { mass: Kg(40000), index: Ticks(4000000) }, Corner { mass: Kg(60000), index: Ticks(4400000) }, \
+    Corner { mass: Kg(65000), index: Ticks(4500000) }]
+[Corner { mass: Kg(40000), index: Ticks(6000000) }, Corner { mass: Kg(65000), index: Ticks(6000000) }]
+[Corner { mass: Kg(40000), index: Ticks(3800000) }, Corner { mass: Kg(75000), index: Ticks(4200000) }]
+[Corner { mass: Kg(40000), index: Ticks(6100000) }, Corner { mass: Kg(70000), index: Ticks(6100000) }]";
+
 /// What is said of a file: that it describes an aircraft, or why not.
 fn said_of(alloc: Global, text: &str) -> Result<String, Fail> {
-    match read_aircraft(alloc, text.as_bytes()) {
-        Ok(_) => Ok(String::from_str(alloc, "an aircraft")?),
-        Err(fault) => Ok(format!(in alloc; "{fault}")?),
+    match read_aircraft(alloc, text.as_bytes()).err() {
+        None => Ok(String::from_str(alloc, "an aircraft")?),
+        Some(fault) => Ok(format!(in alloc; "{fault}")?),
     }
 }
 
@@ -123,12 +167,6 @@ fn first_wrong_edit(alloc: Global, edits: &[u8]) -> Result<Option<usize>, Fail> 
     Ok(None)
 }
 
-/// The aircraft of the file with one text in the place of another.
-fn aircraft_with(alloc: Global, old: &str, new: &str) -> Result<Aircraft, Fail> {
-    let text = String::from_str(alloc, DAIAB)?.replace(alloc, old, new)?;
-    Ok(read_aircraft(alloc, text.as_bytes())?)
-}
-
 #[test]
 fn each_key_may_be_missing_or_wrong(rt: HostRuntime) -> Result<(), Fail> {
     assert_eq!(rt;
@@ -151,171 +189,167 @@ fn rules_of_single_forms(rt: HostRuntime) -> Result<(), Fail> {
     Ok(())
 }
 
-/// Whether the aircraft has the figures that the file states.
-fn has_figures(aircraft: &Aircraft) -> bool {
-    aircraft.registration().bytes() == b"DAIAB".as_slice()
-        && aircraft.version().bytes() == b"Y150".as_slice()
-        && aircraft.dry_mass() == Kg(42_000)
-        && aircraft.dry_index() == Ticks(5_000_000)
-        && aircraft.tolerance_mass() == Kg(500)
-        && aircraft.tolerance_index() == Ticks(500_000)
-        && aircraft.ideal_low() == Ticks(5_000_000)
-        && aircraft.ideal_high() == Ticks(5_100_000)
+/// The registration, the version and the single figures of an aircraft.
+fn figures_of(alloc: Global, aircraft: &Aircraft) -> Result<String, Fail> {
+    let registration = text_of(aircraft.registration().bytes())?;
+    let version = text_of(aircraft.version().bytes())?;
+    let dry = (aircraft.dry_mass(), aircraft.dry_index());
+    let tolerances = (aircraft.tolerance_mass(), aircraft.tolerance_index());
+    let ideal = (aircraft.ideal_low(), aircraft.ideal_high());
+    Ok(format!(in alloc; "{registration} {version} {dry:?} {tolerances:?} {ideal:?}")?)
 }
 
-/// Whether the position has this name, compartment and influence, and accepts `AKE` of up to 1500 kg alone.
-fn is_position(position: &Position, name: &[u8], compartment: u8, influence: i32) -> bool {
-    let fits = position.fits.as_slice();
-    position.name.bytes() == name
-        && position.compartment == compartment
-        && position.influence == influence
-        && !position.bulk
-        && fits.len() == 1
-        && fits
-            .iter()
-            .all(|fit| fit.kind == *b"AKE" && fit.most == Kg(1500))
+/// The records of an aircraft's figures.
+fn records_of(alloc: Global, aircraft: &Aircraft) -> Result<String, AllocError> {
+    format!(in alloc;
+        "{:?}\n{:?}\n{:?}\n{:?}",
+        aircraft.chord(),
+        aircraft.certified(),
+        aircraft.averages(),
+        aircraft.zones()
+    )
+}
+
+/// The figures of the file's aircraft.
+fn figures_read(alloc: Global) -> Result<String, Fail> {
+    let aircraft = daiab(alloc)?;
+    figures_of(alloc, &aircraft)
+}
+
+/// The records of the file's aircraft.
+fn records_read(alloc: Global) -> Result<String, Fail> {
+    let aircraft = daiab(alloc)?;
+    Ok(records_of(alloc, &aircraft)?)
 }
 
 #[test]
 fn the_file_is_read(rt: HostRuntime) -> Result<(), Fail> {
-    let aircraft = read_aircraft(rt.alloc(), DAIAB.as_bytes())?;
-    assert!(rt; has_figures(&aircraft));
-    let chord = Chord {
-        k: Ticks(5_000_000),
-        c: 1000,
-        reference_mm: 18_850,
-        lemac_mm: 17_800,
-        mac_mm: 4190,
-    };
-    assert_eq!(rt; *aircraft.chord(), chord);
-    let certified = Certified {
-        ramp: Kg(73_900),
-        zero_fuel: Kg(62_500),
-        take_off: Kg(73_500),
-        landing: Kg(66_000),
-    };
-    assert_eq!(rt; *aircraft.certified(), certified);
-    let averages = Averages {
-        adult: Kg(84),
-        child: Kg(35),
-        infant: Kg(10),
-        bag: Kg(15),
-    };
-    assert_eq!(rt; *aircraft.averages(), averages);
-    let zones = [
-        Zone {
-            capacity: 60,
-            influence: -700,
-        },
-        Zone {
-            capacity: 90,
-            influence: 500,
-        },
-    ];
-    assert_eq!(rt; aircraft.zones(), zones.as_slice());
+    assert_eq!(rt;
+        figures_read(rt.alloc())?.as_str(),
+        "DAIAB Y150 (Kg(42000), Ticks(5000000)) (Kg(500), Ticks(500000)) (Ticks(5000000), Ticks(5100000))"
+    );
+    assert_eq!(rt; records_read(rt.alloc())?.as_str(), RECORDS);
     Ok(())
+}
+
+/// What a position accepts, where that is one kind of container at most.
+fn fits_text(alloc: Global, fits: &[Fit]) -> Result<String, Fail> {
+    match fits {
+        [] => Ok(String::new(alloc)),
+        [fit] => Ok(format!(in alloc; "{} {}", text_of(fit.kind.as_slice())?, fit.most.0)?),
+        _ => Err(Fail::new("a position accepts one kind")),
+    }
+}
+
+/// The name, the compartment and the influence of a position, whether it is a bulk position, and what it accepts.
+fn position_text(alloc: Global, position: &Position) -> Result<String, Fail> {
+    let name = text_of(position.name.bytes())?;
+    let fits = fits_text(alloc, position.fits.as_slice())?;
+    let figures = (position.compartment, position.influence, position.bulk);
+    Ok(format!(in alloc; "{name} {figures:?} {fits}")?)
+}
+
+/// The first position that differs from its row, where there are as many as rows.
+fn first_other_position(alloc: Global, hold: &Hold, rows: &[u8]) -> Result<Option<usize>, Fail> {
+    for (at, row) in rows.split(|byte| *byte == b'\n').enumerate() {
+        let Some(position) = hold.positions().get(at) else {
+            return Ok(Some(at));
+        };
+        if position_text(alloc, position)?.as_bytes() != row {
+            return Ok(Some(at));
+        }
+    }
+    Ok(None)
+}
+
+/// The limits of a hold.
+fn limits_of(alloc: Global, hold: &Hold) -> Result<String, AllocError> {
+    format!(in alloc;
+        "{:?}\n{:?}\n{:?}\n{:?}\n{:?}",
+        hold.excludes(),
+        hold.combined(),
+        hold.cumulative(),
+        hold.lateral(),
+        hold.sides()
+    )
+}
+
+/// How many positions the file's hold has, and the first that differs from its row.
+fn positions_read(alloc: Global) -> Result<(usize, Option<usize>), Fail> {
+    let aircraft = daiab(alloc)?;
+    let hold = aircraft.hold();
+    let other = first_other_position(alloc, hold, POSITIONS)?;
+    Ok((hold.positions().len(), other))
+}
+
+#[test]
+fn its_positions_are_read(rt: HostRuntime) -> Result<(), Fail> {
+    assert_eq!(rt; positions_read(rt.alloc())?, (5, None));
+    Ok(())
+}
+
+/// The aircraft of the file with a text in the place of its line `[hold]`.
+fn aircraft_with(alloc: Global, head: &str) -> Result<Aircraft, Fail> {
+    let text = String::from_str(alloc, DAIAB)?.replace(alloc, "[hold]", head)?;
+    Ok(read_aircraft(alloc, text.as_bytes())?)
+}
+
+/// The limits of its hold.
+fn limits_with(alloc: Global, head: &str) -> Result<String, Fail> {
+    let aircraft = aircraft_with(alloc, head)?;
+    Ok(limits_of(alloc, aircraft.hold())?)
 }
 
 #[test]
 fn its_hold_is_read(rt: HostRuntime) -> Result<(), Fail> {
-    let aircraft = read_aircraft(rt.alloc(), DAIAB.as_bytes())?;
-    let positions = aircraft.hold().positions();
-    assert_eq!(rt; positions.len(), 5);
-    assert!(rt; is_position(&positions[0], b"11", 1, -600));
-    assert!(rt; is_position(&positions[1], b"12", 1, -400));
-    assert!(rt; is_position(&positions[2], b"41", 4, 400));
-    assert!(rt; is_position(&positions[3], b"42", 4, 600));
-    assert_eq!(rt; positions[4].name.bytes(), b"51".as_slice());
-    assert!(rt; positions[4].bulk);
-    assert_eq!(rt; aircraft.hold().excludes().len(), 0);
-    assert!(rt; aircraft.hold().lateral().is_none());
-    let combined = aircraft.hold().combined();
-    assert_eq!(rt; combined.len(), 1);
-    assert_eq!(rt; combined[0].places.as_slice(), [0, 1].as_slice());
-    assert_eq!(rt; combined[0].most, Kg(2500));
-    let cumulative = aircraft.hold().cumulative();
-    assert_eq!(rt; cumulative.len(), 1);
-    assert!(rt;
-        !cumulative[0].forward && cumulative[0].place == 2 && cumulative[0].most == Kg(4500)
-    );
+    assert_eq!(rt; limits_with(rt.alloc(), "[hold]")?.as_str(), LIMITS_READ);
     Ok(())
 }
 
-/// Whether the side begins and ends with these corners.
-fn has_ends(side: &[Corner], first: (u32, i64), last: (u32, i64)) -> bool {
-    let corner = |(mass, index)| Some(Corner {
-        mass: Kg(mass),
-        index: Ticks(index),
-    });
-    side.first().copied() == corner(first) && side.last().copied() == corner(last)
+/// The rows of an aircraft's fuel table, and the corners of its envelopes.
+fn balance_of(alloc: Global, aircraft: &Aircraft) -> Result<String, AllocError> {
+    format!(in alloc;
+        "{:?}\n{:?}\n{:?}\n{:?}\n{:?}",
+        aircraft.fuel().rows(),
+        aircraft.zero_fuel().forward(),
+        aircraft.zero_fuel().aft(),
+        aircraft.take_off().forward(),
+        aircraft.landing().aft()
+    )
+}
+
+/// The same of the file's aircraft.
+fn balance_read(alloc: Global) -> Result<String, Fail> {
+    let aircraft = daiab(alloc)?;
+    Ok(balance_of(alloc, &aircraft)?)
 }
 
 #[test]
 fn its_balance_is_read(rt: HostRuntime) -> Result<(), Fail> {
-    let aircraft = read_aircraft(rt.alloc(), DAIAB.as_bytes())?;
-    let rows = aircraft.fuel().rows();
-    assert_eq!(rt; rows.len(), 4);
-    assert_eq!(rt;
-        rows[3],
-        FuelRow {
-            fuel: Kg(20_000),
-            index: Ticks(-231_000)
-        }
-    );
-    let zero_fuel = aircraft.zero_fuel();
-    assert_eq!(rt; zero_fuel.forward().len(), 3);
-    assert!(rt;
-        has_ends(
-            zero_fuel.forward(),
-            (40_000, 4_000_000),
-            (65_000, 4_500_000)
-        )
-    );
-    assert!(rt; has_ends(zero_fuel.aft(), (40_000, 6_000_000), (65_000, 6_000_000)));
-    assert!(rt;
-        has_ends(
-            aircraft.take_off().forward(),
-            (40_000, 3_800_000),
-            (75_000, 4_200_000)
-        )
-    );
-    assert!(rt;
-        has_ends(
-            aircraft.landing().aft(),
-            (40_000, 6_100_000),
-            (70_000, 6_100_000)
-        )
-    );
+    assert_eq!(rt; balance_read(rt.alloc())?.as_str(), BALANCE_READ);
     Ok(())
 }
 
 #[test]
 fn forward_limits_stand_before_aft_ones(rt: HostRuntime) -> Result<(), Fail> {
-    let limits = "[hold]\nforward = [[\"12\", 3000]]\nexclude = [[\"11\", \"42\"]]";
-    let aircraft = aircraft_with(rt.alloc(), "[hold]", limits)?;
-    assert_eq!(rt; aircraft.hold().excludes(), [(0, 3)].as_slice());
-    let cumulative = aircraft.hold().cumulative();
-    assert_eq!(rt; cumulative.len(), 2);
-    assert!(rt;
-        cumulative[0].forward && cumulative[0].place == 1 && cumulative[0].most == Kg(3000)
-    );
-    assert!(rt; !cumulative[1].forward);
+    let head = "[hold]\nforward = [[\"12\", 3000]]\nexclude = [[\"11\", \"42\"]]";
+    assert_eq!(rt; limits_with(rt.alloc(), head)?.as_str(), FORWARD_READ);
     Ok(())
 }
 
 #[test]
 fn sides_stand_in_position_order(rt: HostRuntime) -> Result<(), Fail> {
-    let sides = "[hold]\nright = [\"42\", \"11\"]\nlateral = 500\nleft = [\"41\", \"12\"]";
-    let aircraft = aircraft_with(rt.alloc(), "[hold]", sides)?;
-    let Some(lateral) = aircraft.hold().lateral() else {
-        assert!(rt; false);
-        return Ok(());
-    };
-    assert_eq!(rt; lateral.most, Kg(500));
-    let in_order = [(0, true), (1, false), (2, false), (3, true)];
-    assert_eq!(rt; lateral.sides.as_slice(), in_order.as_slice());
+    let head = "[hold]\nright = [\"42\", \"11\"]\nlateral = 500\nleft = [\"41\", \"12\"]";
+    assert!(rt;
+        limits_with(rt.alloc(), head)?
+            .as_str()
+            .ends_with(SIDES_READ)
+    );
     let left_alone = "[hold]\nlateral = 1000000\nleft = [\"51\"]";
-    let aircraft = aircraft_with(rt.alloc(), "[hold]", left_alone)?;
-    assert_eq!(rt; aircraft.hold().sides(), [(4, false)].as_slice());
+    assert!(rt;
+        limits_with(rt.alloc(), left_alone)?
+            .as_str()
+            .ends_with(LEFT_READ)
+    );
     Ok(())
 }

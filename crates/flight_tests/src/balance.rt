@@ -1,16 +1,15 @@
 // The worked day: its task and its balance, days that are refused, and each rule broken alone.
 use crate::tables::{edited, field_at};
-use crate::worked_day::{DAIAB, ROW};
-use aircraft_file::{Aircraft, read_aircraft};
+use crate::worked_day::{ROW, daiab};
+use aircraft_file::Aircraft;
 use arrayvec::ArrayVec;
 use flight_row::read_row;
 use hold_limits::{Path, Task, hold_index_of, is_in_window, is_sound};
-use mass_limits::{Limiting, Masses, Underload};
 use mass_units::{Kg, Ticks};
-use std::alloc::Global;
+use std::alloc::{AllocError, Global};
 use std::slice;
 use std::test::Fail;
-use trim::{Balance, Figures, Rule, Rules, TrimFault, broken_rules, state_of, task_of};
+use trim::{Figures, Rule, Rules, TrimFault, broken_rules, state_of, task_of};
 
 /// Edits of the worked day's row, a row for each: why its figures leave no task, and the edits.
 const FAULTS: &[u8] = b"the fuel table does not have Kg(20001) of fuel|fuel 200 9000|fuel 200 20001
@@ -32,18 +31,32 @@ ZERO FUEL ENVELOPE|dry 42000 50.00000|dry 42000 41.00000
 TAKE OFF ENVELOPE|dry 42000 50.00000|dry 42000 41.29000|9000 6000|18000 12000
 LANDING ENVELOPE|dry 42000 50.00000|dry 42000 41.34000|9000 6000|10000 100";
 
-fn daiab(alloc: Global) -> Result<Aircraft, Fail> {
-    Ok(read_aircraft(alloc, DAIAB.as_bytes())?)
+/// The balance of the worked day.
+const BALANCE: &str = "Balance { masses: Masses { ramp: Kg(63780), zero_fuel: Kg(54580), \
+    take_off: Kg(63580), landing: Kg(57580) }, underload: Underload { kg: 7920, limiting: ZeroFuel }, \
+    zero_fuel: Ticks(5166000), take_off: Ticks(5045000), landing: Ticks(5165000) }";
+
+/// The row of the worked day before its plan, with the edits of a row.
+fn row_with(alloc: Global, row: &[u8]) -> Result<String, Fail> {
+    Ok(
+        edited(alloc, ROW, row)?
+            .replace(alloc, "stage released", "stage working")?
+            .replace(alloc, "releases 1", "releases 0")?
+            .replace(alloc, "plan 11 42\n", "")?,
+    )
 }
 
-/// The figures of the worked day, whose row has the edits of a row of a table, before there was a plan.
+/// The figures of the flight of a row.
+fn figures_in(alloc: Global, aircraft: &Aircraft, row: &str) -> Result<Figures, Fail> {
+    let flight = read_row(alloc, slice::from_ref(aircraft), row.as_bytes())?;
+    Ok(flight.base.copy(alloc)?)
+}
+
+/// The figures of the worked day with the edits of a row.
 fn figures_with(alloc: Global, row: &[u8]) -> Result<Figures, Fail> {
-    let text = edited(alloc, ROW, row)?
-        .replace(alloc, "stage released", "stage working")?
-        .replace(alloc, "releases 1", "releases 0")?
-        .replace(alloc, "plan 11 42\n", "")?;
-    let fleet = daiab(alloc)?;
-    Ok(read_row(alloc, slice::from_ref(&fleet), text.as_bytes())?.base)
+    let text = row_with(alloc, row)?;
+    let aircraft = daiab(alloc)?;
+    figures_in(alloc, &aircraft, text.as_str())
 }
 
 /// The figures of the worked day.
@@ -80,14 +93,19 @@ fn rules(
     Ok(broken_rules(&daiab(alloc)?, figures, &path))
 }
 
+/// Why the figures of a row leave no task.
+fn fault_of(alloc: Global, row: &[u8]) -> Result<String, Fail> {
+    let figures = figures_with(alloc, row)?;
+    match task(alloc, &figures)?.err() {
+        Some(fault) => Ok(format!(in alloc; "{fault}")?),
+        None => Ok(String::from_str(alloc, "a task")?),
+    }
+}
+
 /// The first row of faults whose figures have a task, or none for another reason.
 fn first_other_fault(alloc: Global, faults: &[u8]) -> Result<Option<usize>, Fail> {
     for (at, row) in faults.split(|byte| *byte == b'\n').enumerate() {
-        let due = field_at(alloc, row, 0)?;
-        let Err(fault) = task(alloc, &figures_with(alloc, row)?)? else {
-            return Ok(Some(at));
-        };
-        if format!(in alloc; "{fault}")? != due {
+        if fault_of(alloc, row)? != field_at(alloc, row, 0)? {
             return Ok(Some(at));
         }
     }
@@ -111,46 +129,52 @@ fn first_other_rule(alloc: Global, broken: &[u8]) -> Result<Option<usize>, Fail>
     Ok(None)
 }
 
-#[test]
-fn the_worked_day_has_its_task(rt: HostRuntime) -> Result<(), Fail> {
-    let task = task(rt.alloc(), &worked(rt.alloc())?)??;
-    let indices = [
+/// The base, the window and the ideal band of a task.
+fn indices_of(task: &Task) -> [Ticks; 5] {
+    [
         task.base(),
         task.low(),
         task.high(),
         task.ideal_low(),
         task.ideal_high(),
-    ];
-    let due = [4_877_000, -706_400, 1_002_000, 5_000_000, 5_100_000];
-    assert_eq!(rt; indices, due.map(Ticks));
-    assert_eq!(rt; (task.items().len(), task.loose().len()), (2, 1));
+    ]
+}
+
+/// The indices of a task, and how many containers and loose loads it has; or why there is none.
+fn task_text(alloc: Global, task: &Result<Task, TrimFault>) -> Result<String, AllocError> {
+    match task {
+        Ok(task) => {
+            let counts = (task.items().len(), task.loose().len());
+            format!(in alloc; "{:?} {counts:?}", indices_of(task))
+        }
+        Err(fault) => format!(in alloc; "{fault}"),
+    }
+}
+
+#[test]
+fn the_worked_day_has_its_task(rt: HostRuntime) -> Result<(), Fail> {
+    let figures = worked(rt.alloc())?;
+    assert_eq!(rt;
+        task_text(rt.alloc(), &task(rt.alloc(), &figures)?)?.as_str(),
+        "[Ticks(4877000), Ticks(-706400), Ticks(1002000), Ticks(5000000), Ticks(5100000)] (2, 1)"
+    );
     Ok(())
+}
+
+/// The balance of the figures, with the containers on positions 11 and 42.
+fn balance_text(alloc: Global, figures: &Figures) -> Result<String, Fail> {
+    let path = path(0, 3);
+    if !figures.keeps_limits() || path.len() != figures.containers.as_slice().len() {
+        return Err(Fail::new("the figures are within their limits"));
+    }
+    let balance = state_of(&daiab(alloc)?, figures, &path)?;
+    Ok(format!(in alloc; "{balance:?}")?)
 }
 
 #[test]
 fn the_worked_day_has_its_balance(rt: HostRuntime) -> Result<(), Fail> {
     let figures = worked(rt.alloc())?.copy(rt.alloc())?;
-    let path = path(0, 3);
-    if !figures.keeps_limits() || path.len() != figures.containers.as_slice().len() {
-        return Err(Fail::new("the figures are within their limits"));
-    }
-    let balance = state_of(&daiab(rt.alloc())?, &figures, &path)?;
-    let worked = Balance {
-        masses: Masses {
-            ramp: Kg(63_780),
-            zero_fuel: Kg(54_580),
-            take_off: Kg(63_580),
-            landing: Kg(57_580),
-        },
-        underload: Underload {
-            kg: 7920,
-            limiting: Limiting::ZeroFuel,
-        },
-        zero_fuel: Ticks(5_166_000),
-        take_off: Ticks(5_045_000),
-        landing: Ticks(5_165_000),
-    };
-    assert_eq!(rt; balance, worked);
+    assert_eq!(rt; balance_text(rt.alloc(), &figures)?.as_str(), BALANCE);
     Ok(())
 }
 
@@ -174,17 +198,20 @@ fn each_rule_is_broken_alone(rt: HostRuntime) -> Result<(), Fail> {
     Ok(())
 }
 
+/// The rules that the worked day breaks with its containers on these positions.
+fn rules_text(alloc: Global, first: u8, second: u8) -> Result<String, Fail> {
+    let rules = rules(alloc, &worked(alloc)?, first, second)??;
+    Ok(format!(in alloc; "{:?}", rules.as_slice())?)
+}
+
 #[test]
 fn broken_rules_are_listed_in_order(rt: HostRuntime) -> Result<(), Fail> {
-    let figures = worked(rt.alloc())?;
-    let hold = rules(rt.alloc(), &figures, 0, 4)??;
-    assert_eq!(rt; hold.as_slice(), [Rule::Hold].as_slice());
-    let two = rules(rt.alloc(), &figures, 0, 0)??;
+    assert_eq!(rt; rules_text(rt.alloc(), 0, 4)?.as_str(), "[Hold]");
     assert_eq!(rt;
-        two.as_slice(),
-        [Rule::ZeroFuelEnvelope, Rule::Hold].as_slice()
+        rules_text(rt.alloc(), 0, 0)?.as_str(),
+        "[ZeroFuelEnvelope, Hold]"
     );
-    assert_eq!(rt; rules(rt.alloc(), &figures, 0, 3)??.len(), 0);
+    assert_eq!(rt; rules_text(rt.alloc(), 0, 3)?.as_str(), "[]");
     assert_eq!(rt; Rule::Lateral.text(), "LATERAL");
     Ok(())
 }
@@ -198,22 +225,42 @@ fn admits(task: &Task, path: &Path) -> bool {
     is_sound(task, numbers) && is_in_window(task, hold_index_of(task, numbers))
 }
 
-/// The first two positions of which the task and the rules say different things.
-fn first_difference(alloc: Global) -> Result<Option<(u8, u8)>, Fail> {
-    let figures = worked(alloc)?;
-    let task = task(alloc, &figures)??;
+/// Whether the task and the rules say the same of containers on these positions.
+fn are_agreed(
+    alloc: Global,
+    figures: &Figures,
+    task: &Task,
+    first: u8,
+    second: u8,
+) -> Result<bool, Fail> {
+    let rules = rules(alloc, figures, first, second)??;
+    Ok(rules.is_empty() == admits(task, &path(first, second)))
+}
+
+/// The first two positions of which they say different things.
+fn first_difference(
+    alloc: Global,
+    figures: &Figures,
+    task: &Task,
+) -> Result<Option<(u8, u8)>, Fail> {
     for number in 0..36_u8 {
         let (first, second) = (number / 6, number % 6);
-        let rules = rules(alloc, &figures, first, second)??;
-        if rules.is_empty() != admits(&task, &path(first, second)) {
+        if !are_agreed(alloc, figures, task, first, second)? {
             return Ok(Some((first, second)));
         }
     }
     Ok(None)
 }
 
+/// The same for the worked day.
+fn worked_difference(alloc: Global) -> Result<Option<(u8, u8)>, Fail> {
+    let figures = worked(alloc)?;
+    let task = task(alloc, &figures)??;
+    first_difference(alloc, &figures, &task)
+}
+
 #[test]
 fn the_task_admits_the_paths_that_break_no_rule(rt: HostRuntime) -> Result<(), Fail> {
-    assert_eq!(rt; first_difference(rt.alloc())?, None);
+    assert_eq!(rt; worked_difference(rt.alloc())?, None);
     Ok(())
 }

@@ -1,13 +1,8 @@
 // The row of the worked flight.
-use crate::worked_day::{DAIAB, ROW};
-use aircraft_file::{Aircraft, read_aircraft};
+use crate::worked_day::{ROW, daiab};
 use flight_row::{RowFault, read_row, write_row};
 use std::alloc::Global;
 use std::test::Fail;
-
-fn daiab(alloc: Global) -> Result<Aircraft, Fail> {
-    Ok(read_aircraft(alloc, DAIAB.as_bytes())?)
-}
 
 #[test]
 fn the_worked_row_is_read_and_written(rt: HostRuntime) -> Result<(), Fail> {
@@ -25,23 +20,17 @@ fn the_worked_row_is_read_and_written(rt: HostRuntime) -> Result<(), Fail> {
 
 #[test]
 fn a_row_without_its_aircraft_or_its_end_is_refused(rt: HostRuntime) {
-    let none: &[Aircraft] = &[];
-    assert!(rt;
-        matches!(
-            read_row(rt.alloc(), none, ROW.as_bytes()),
-            Err(RowFault::NoAircraft)
-        )
+    let alloc = rt.alloc();
+    assert_eq!(rt;
+        read_row(alloc, &[], ROW.as_bytes()).err(),
+        Some(RowFault::NoAircraft)
     );
-    assert!(rt;
-        matches!(
-            read_row(rt.alloc(), none, b"FLIGHT 2\n"),
-            Err(RowFault::NoEnd)
-        )
+    assert_eq!(rt;
+        read_row(alloc, &[], b"FLIGHT 2\n").err(),
+        Some(RowFault::NoEnd)
     );
-    assert!(rt;
-        matches!(
-            read_row(rt.alloc(), none, b"FLIGHT 3\n"),
-            Err(RowFault::Line(1))
-        )
+    assert_eq!(rt;
+        read_row(alloc, &[], b"FLIGHT 3\n").err(),
+        Some(RowFault::Line(1))
     );
 }

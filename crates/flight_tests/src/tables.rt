@@ -8,8 +8,7 @@ fn field(alloc: Global, row: &[u8], place: usize) -> Result<Option<String>, Fail
     let Some(bytes) = row.split(|byte| *byte == b'|').nth(place) else {
         return Ok(None);
     };
-    let text = str::from_utf8(bytes).map_err(|_| Fail::new("a field is a text"))?;
-    Ok(Some(String::from_str(alloc, text)?.replace(alloc, "~", "\n")?))
+    Ok(Some(String::from_str(alloc, text_of(bytes)?)?.replace(alloc, "~", "\n")?))
 }
 
 /// The field at this place of a row, which has it.
@@ -26,4 +25,9 @@ pub fn edited(alloc: Global, text: &str, row: &[u8]) -> Result<String, Fail> {
         }
     }
     Ok(text)
+}
+
+/// The text that these bytes are.
+pub fn text_of(bytes: &[u8]) -> Result<&str, Fail> {
+    str::from_utf8(bytes).map_err(|_| Fail::new("the bytes are a text"))
 }

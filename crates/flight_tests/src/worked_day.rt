@@ -1,4 +1,7 @@
 // The texts of the worked day.
+use aircraft_file::{Aircraft, read_aircraft};
+use std::alloc::Global;
+use std::test::Fail;
 
 /// `examples/daiab.toml`.
 pub const DAIAB: &str = r#"registration = "DAIAB"
@@ -92,3 +95,8 @@ loose 51 200 8
 plan 11 42
 END
 "#;
+
+/// The aircraft of the worked day.
+pub fn daiab(alloc: Global) -> Result<Aircraft, Fail> {
+    Ok(read_aircraft(alloc, DAIAB.as_bytes())?)
+}

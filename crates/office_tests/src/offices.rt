@@ -1,5 +1,6 @@
-// The office over keepers in memory: a flight from its opening to its departure, refusals, and failures.
-ghost use Rattle.std.specs.Prelude.{IfOk};
+// The office over keepers in memory: a flight from its opening to its departure, refusals, and failures. A talk with it is
+// a text: a line for each request, with a word for what is asked, an edition, and the reply that is due.
+ghost use Rattle.std.specs.Prelude.{IfOk, IfSome};
 ghost use Rattle.editions.specs.Acts.{IsPartWithin, IsWithinLimits};
 ghost use Rattle.aircraft_file.specs.Craft.{AreApart};
 
@@ -7,13 +8,14 @@ use aircraft_file::{Aircraft, Registration, read_aircraft};
 use cert_checker::Proven;
 use certificate::{Certificate, Claim, Cuts};
 use desk_base::NoMemory;
-use editions::{FigurePart, Office, Outcome, Refusal, Reply, Request, StartFault, What};
+use editions::{Entry, FigurePart, Office, Outcome, Refusal, Reply, Request, StartFault, What};
 use flight_history::{new_flight, standing_after};
-use flight_state::{Day, FlightKey, FlightName, Leg, Lmc, Station};
+use flight_state::{Day, FlightKey, FlightName, FlightState, Leg, Lmc, Station};
 use hold_limits::{Path, Task};
 use keeper::{Bytes, FailingKeeper, Keeper, KeptRow, MemoryKeeper};
 use mass_units::{Kg, Ticks};
-use std::alloc::Global;
+use std::alloc::{AllocError, Global};
+use std::str;
 use std::test::Fail;
 use trim::{Dry, Fuel, Regulated};
 
@@ -130,33 +132,64 @@ fn key() -> Result<FlightKey, NoMemory> {
     FlightKey::read(b"XX210-12").ok_or(NoMemory)
 }
 
-fn fuel() -> FigurePart
-    ensures { IsPartWithin result }
+/// The part of the figures that a word of a talk sets.
+fn part_of(word: &[u8]) -> Option<FigurePart>
+    ensures { IfSome result IsPartWithin }
 {
-    FigurePart::Fuel(Fuel {
-        taxi: Kg(200),
-        take_off: Kg(9_000),
-        trip: Kg(6_000),
-    })
+    match word {
+        b"fuel" => Some(FigurePart::Fuel(Fuel {
+            taxi: Kg(200),
+            take_off: Kg(9_000),
+            trip: Kg(6_000),
+        })),
+        b"dry" => Some(FigurePart::Dry(Dry {
+            mass: Kg(42_100),
+            index: Ticks(5_000_000),
+            cockpit: 2,
+            attendants: 4,
+        })),
+        b"limits" => Some(FigurePart::Limits(Regulated {
+            take_off: Kg(73_000),
+            landing: Kg(66_000),
+        })),
+        _ => None,
+    }
 }
 
-fn dry() -> FigurePart
-    ensures { IsPartWithin result }
-{
-    FigurePart::Dry(Dry {
-        mass: Kg(42_100),
-        index: Ticks(5_000_000),
-        cockpit: 2,
-        attendants: 4,
-    })
+/// One adult more in the second zone.
+fn one_adult() -> Lmc {
+    Lmc::Cabin {
+        zone: 2,
+        adults: 1,
+        children: 0,
+        infants: 0,
+    }
 }
 
-fn limits() -> FigurePart
-    ensures { IsPartWithin result }
+/// The request that a word of a talk and an edition stand for. Another word asks for the row.
+fn request_of(word: &[u8], edition: u32) -> Result<Request, NoMemory>
+    ensures { IfOk result IsWithinLimits }
 {
-    FigurePart::Limits(Regulated {
-        take_off: Kg(73_000),
-        landing: Kg(66_000),
+    let key = key()?;
+    if let Some(part) = part_of(word) {
+        return Ok(Request::Set { key, edition, part });
+    }
+    Ok(match word {
+        b"new" => Request::NewFlight {
+            leg: leg(b"DAIAB")?,
+        },
+        b"take" => Request::Take { key, edition },
+        b"release" => Request::Release { key, edition },
+        b"late" => Request::Late {
+            key,
+            edition,
+            lmc: one_adult(),
+        },
+        b"depart" => Request::Depart { key, edition },
+        _ => Request::Show {
+            key,
+            what: What::State,
+        },
     })
 }
 
@@ -170,40 +203,29 @@ fn plan_of(alloc: Global, task: Task) -> Result<Proven, NoMemory> {
     Proven::new(task, certificate).map_err(|_| NoMemory)
 }
 
-/// What a reply says, as far as it is looked at here.
-#[derive(Clone, Copy, Debug, PartialEq, Eq)]
-enum Said {
-    Opened,
-    Edition(u32),
-    SheetOf(u32),
-    Exists,
-    Gone,
-    Stale(u32),
-    Ahead(u32),
-    OtherTask,
-    KeeperFault,
-    Other,
-}
-
-fn refused_by(refusal: &Refusal) -> Said {
+fn refused_by(alloc: Global, refusal: &Refusal) -> Result<String, AllocError> {
     match refusal {
-        Refusal::Exists => Said::Exists,
-        Refusal::Gone => Said::Gone,
-        Refusal::Stale(edition) => Said::Stale(*edition),
-        Refusal::Ahead(edition) => Said::Ahead(*edition),
-        Refusal::OtherTask => Said::OtherTask,
-        Refusal::KeeperFault => Said::KeeperFault,
-        _ => Said::Other,
+        Refusal::Exists => format!(in alloc; "exists"),
+        Refusal::Gone => format!(in alloc; "gone"),
+        Refusal::Stale(edition) => format!(in alloc; "stale {edition}"),
+        Refusal::Ahead(edition) => format!(in alloc; "ahead {edition}"),
+        Refusal::OtherTask => format!(in alloc; "other task"),
+        Refusal::KeeperFault => format!(in alloc; "keeper fault"),
+        _ => format!(in alloc; "refused"),
     }
 }
 
-fn said_by(reply: Reply) -> Said {
-    match &reply {
-        Reply::Opened(key) if key.bytes() == b"XX210-12".as_slice() => Said::Opened,
-        Reply::Edition(edition) => Said::Edition(*edition),
-        Reply::Sheet(sheet) => Said::SheetOf(sheet.edition),
-        Reply::Refused(refusal) => refused_by(refusal),
-        _ => Said::Other,
+/// What a reply says, in a word or two.
+fn said_by(alloc: Global, reply: &Reply) -> Result<String, AllocError> {
+    match reply {
+        Reply::Opened(_) => format!(in alloc; "opened"),
+        Reply::Edition(edition) => format!(in alloc; "edition {edition}"),
+        Reply::Sheet(sheet) => format!(in alloc; "sheet {}", sheet.edition),
+        Reply::Task(_) => format!(in alloc; "task"),
+        Reply::Row(row) if row.as_slice() == OPENED.as_bytes() => format!(in alloc; "as opened"),
+        Reply::Row(_) => format!(in alloc; "a row"),
+        Reply::Refused(refusal) => refused_by(alloc, refusal),
+        _ => format!(in alloc; "another reply"),
     }
 }
 
@@ -222,230 +244,176 @@ fn reply_to<K: Keeper>(
     Ok(office.turn(alloc, keeper, 1, request))
 }
 
-/// What the reply to a request says, where an entry is spare.
-fn ask<K: Keeper>(
+/// The request of a line of a talk. The plan of the task that was taken last is what is installed.
+fn request_in(
     alloc: Global,
-    office: &mut Office,
-    keeper: &mut K,
-    request: Request,
-) -> Result<Said, NoMemory>
-    requires { IsWithinLimits request }
-{
-    Ok(said_by(reply_to(alloc, office, keeper, request)?))
-}
-
-fn set<K: Keeper>(
-    alloc: Global,
-    office: &mut Office,
-    keeper: &mut K,
+    word: &[u8],
     edition: u32,
-    part: FigurePart,
-) -> Result<Said, NoMemory>
-    requires { IsPartWithin part }
-{
-    let key = key()?;
-    ask(alloc, office, keeper, Request::Set { key, edition, part })
-}
-
-fn new_request() -> Result<Request, NoMemory>
+    taken: &Option<Task>,
+) -> Result<Request, Fail>
     ensures { IfOk result IsWithinLimits }
 {
-    Ok(Request::NewFlight {
-        leg: leg(b"DAIAB")?,
+    if word != b"install".as_slice() {
+        return Ok(request_of(word, edition)?);
+    }
+    let Some(task) = taken else {
+        return Err(Fail::new("a task was taken"));
+    };
+    Ok(Request::Install {
+        key: key()?,
+        edition,
+        plan: plan_of(alloc, task.copy(alloc)?)?,
     })
 }
 
-fn open<K: Keeper>(alloc: Global, keeper: &mut K) -> Result<Office, NoMemory> {
-    let mut office = Office::start(alloc, fleet(alloc)?, 20, keeper).map_err(|_| NoMemory)?;
-    let _ = ask(alloc, &mut office, keeper, new_request()?)?;
-    Ok(office)
+/// The field at this place of a line.
+fn field_at(line: &[u8], place: usize) -> Result<&[u8], Fail> {
+    let field = line.split(|byte| *byte == b'|').nth(place);
+    Ok(field.ok_or("a line has three fields")?)
 }
 
-/// The flight with fuel, at edition 2.
-fn told<K: Keeper>(alloc: Global, keeper: &mut K) -> Result<Office, NoMemory> {
-    let mut office = open(alloc, keeper)?;
-    let _ = set(alloc, &mut office, keeper, 1, fuel())?;
-    Ok(office)
+/// The edition of a line.
+fn edition_in(line: &[u8]) -> Result<u32, Fail> {
+    let text = str::from_utf8(field_at(line, 1)?).map_err(|_| Fail::new("a text"))?;
+    text.parse().map_err(|_| Fail::new("a number"))
 }
 
-fn taken<K: Keeper>(
-    alloc: Global,
-    office: &mut Office,
-    keeper: &mut K,
-    edition: u32,
-) -> Result<Task, NoMemory> {
-    let key = key()?;
-    match reply_to(alloc, office, keeper, Request::Take { key, edition })? {
-        Reply::Task(task) => Ok(task),
-        _ => Err(NoMemory),
+/// Keeps the task that a reply gives.
+fn keep_task(reply: Reply, taken: &mut Option<Task>) {
+    if let Reply::Task(task) = reply {
+        *taken = Some(task);
     }
 }
 
-/// The same flight with a plan.
-fn planned<K: Keeper>(alloc: Global, keeper: &mut K) -> Result<Office, NoMemory> {
-    let mut office = told(alloc, keeper)?;
-    let plan = plan_of(alloc, taken(alloc, &mut office, keeper, 2)?)?;
-    let install = Request::Install {
-        key: key()?,
-        edition: 2,
-        plan,
-    };
-    let _ = ask(alloc, &mut office, keeper, install)?;
-    Ok(office)
-}
-
-fn row<K: Keeper>(alloc: Global, office: &mut Office, keeper: &mut K) -> Result<Bytes, NoMemory> {
-    let show = Request::Show {
-        key: key()?,
-        what: What::State,
-    };
-    match reply_to(alloc, office, keeper, show)? {
-        Reply::Row(row) => Ok(row),
-        _ => Err(NoMemory),
-    }
-}
-
-/// Whether the row of the flight is that of its opening.
-fn is_as_opened<K: Keeper>(
+/// Whether the reply to the request of a line is the one that is due.
+fn is_answered<K: Keeper>(
     alloc: Global,
     office: &mut Office,
     keeper: &mut K,
-) -> Result<bool, NoMemory> {
-    Ok(row(alloc, office, keeper)?.as_slice() == OPENED.as_bytes())
+    line: &[u8],
+    taken: &mut Option<Task>,
+) -> Result<bool, Fail> {
+    let request = request_in(alloc, field_at(line, 0)?, edition_in(line)?, taken)?;
+    let reply = reply_to(alloc, office, keeper, request)?;
+    let is_due = said_by(alloc, &reply)?.as_bytes() == field_at(line, 2)?;
+    keep_task(reply, taken);
+    Ok(is_due)
 }
 
-fn release(edition: u32) -> Result<Request, NoMemory>
-    ensures { IfOk result IsWithinLimits }
-{
-    Ok(Request::Release {
-        key: key()?,
-        edition,
-    })
+/// The first line of a talk whose reply is another one. A line is a word, an edition, and the reply.
+fn first_wrong<K: Keeper>(
+    alloc: Global,
+    office: &mut Office,
+    keeper: &mut K,
+    talk: &[u8],
+) -> Result<Option<usize>, Fail> {
+    let mut taken = None;
+    for (at, line) in talk.split(|byte| *byte == b'\n').enumerate() {
+        if !is_answered(alloc, office, keeper, line, &mut taken)? {
+            return Ok(Some(at));
+        }
+    }
+    Ok(None)
 }
 
-/// One adult more in the second zone.
-fn late(edition: u32) -> Result<Request, NoMemory>
-    ensures { IfOk result IsWithinLimits }
-{
-    Ok(Request::Late {
-        key: key()?,
-        edition,
-        lmc: Lmc::Cabin {
-            zone: 2,
-            adults: 1,
-            children: 0,
-            infants: 0,
-        },
-    })
-}
+/// A flight gets its fuel and a plan.
+const PLANNED: &[u8] = b"new|1|opened
+fuel|1|edition 2
+take|2|task
+install|2|edition 2";
 
-#[test]
-fn a_flight_is_opened_once(rt: HostRuntime) -> Result<(), Fail> {
-    let alloc = rt.alloc();
+/// The same flight is released, and changed late.
+const LATE: &[u8] = b"new|1|opened
+fuel|1|edition 2
+take|2|task
+install|2|edition 2
+release|2|sheet 2
+late|2|edition 3";
+
+/// It departs.
+const DEPARTED: &[u8] = b"new|1|opened
+fuel|1|edition 2
+take|2|task
+install|2|edition 2
+release|2|sheet 2
+late|2|edition 3
+depart|3|edition 3
+release|3|gone";
+
+/// A plan comes late, or is for other figures.
+const OTHER_FIGURES: &[u8] = b"new|1|opened
+fuel|1|edition 2
+take|2|task
+limits|2|edition 3
+dry|3|edition 4
+install|2|stale 4
+install|4|other task
+release|5|ahead 4";
+
+/// The first line of a talk with a new office whose reply is another one.
+fn first_wrong_of(alloc: Global, talk: &[u8]) -> Result<Option<usize>, Fail> {
     let mut keeper = MemoryKeeper::new(alloc);
-    let mut office = Office::start(alloc, fleet(alloc)?, 3, &mut keeper)?;
-    assert_eq!(rt;
-        ask(alloc, &mut office, &mut keeper, new_request()?)?,
-        Said::Opened
-    );
-    assert_eq!(rt;
-        ask(alloc, &mut office, &mut keeper, new_request()?)?,
-        Said::Exists
-    );
-    assert!(rt; is_as_opened(alloc, &mut office, &mut keeper)?);
-    assert_eq!(rt; office.spare(), 0);
-    let (opening, history) = office.parts();
-    assert!(rt; opening.is_empty() && history.len() == 3);
-    Ok(())
+    let mut office = Office::start(alloc, fleet(alloc)?, 20, &mut keeper)?;
+    first_wrong(alloc, &mut office, &mut keeper, talk)
 }
 
 #[test]
 fn a_flight_is_released_and_departs(rt: HostRuntime) -> Result<(), Fail> {
-    let alloc = rt.alloc();
-    let mut keeper = MemoryKeeper::new(alloc);
-    let mut office = planned(alloc, &mut keeper)?;
-    assert_eq!(rt;
-        ask(alloc, &mut office, &mut keeper, release(2)?)?,
-        Said::SheetOf(2)
-    );
-    assert_eq!(rt;
-        ask(alloc, &mut office, &mut keeper, late(2)?)?,
-        Said::Edition(3)
-    );
-    let depart = Request::Depart {
-        key: key()?,
-        edition: 3,
-    };
-    assert_eq!(rt;
-        ask(alloc, &mut office, &mut keeper, depart)?,
-        Said::Edition(3)
-    );
-    assert_eq!(rt;
-        ask(alloc, &mut office, &mut keeper, release(3)?)?,
-        Said::Gone
-    );
+    assert_eq!(rt; first_wrong_of(rt.alloc(), DEPARTED)?, None);
     Ok(())
 }
 
 #[test]
 fn a_plan_for_other_figures_is_refused(rt: HostRuntime) -> Result<(), Fail> {
-    let alloc = rt.alloc();
-    let mut keeper = MemoryKeeper::new(alloc);
-    let mut office = told(alloc, &mut keeper)?;
-    let task = taken(alloc, &mut office, &mut keeper, 2)?;
-    let plan = plan_of(alloc, task.copy(alloc)?)?;
-    let _ = set(alloc, &mut office, &mut keeper, 2, limits())?;
-    let _ = set(alloc, &mut office, &mut keeper, 3, dry())?;
-    let stale = Request::Install {
-        key: key()?,
-        edition: 2,
-        plan,
-    };
-    assert_eq!(rt;
-        ask(alloc, &mut office, &mut keeper, stale)?,
-        Said::Stale(4)
-    );
-    let other = Request::Install {
-        key: key()?,
-        edition: 4,
-        plan: plan_of(alloc, task)?,
-    };
-    assert_eq!(rt;
-        ask(alloc, &mut office, &mut keeper, other)?,
-        Said::OtherTask
-    );
-    assert_eq!(rt;
-        ask(alloc, &mut office, &mut keeper, release(5)?)?,
-        Said::Ahead(4)
-    );
+    assert_eq!(rt; first_wrong_of(rt.alloc(), OTHER_FIGURES)?, None);
     Ok(())
+}
+
+/// The lengths of an office's opening and history.
+fn lengths_of(office: Office) -> (usize, usize) {
+    let (opening, history) = office.parts();
+    (opening.len(), history.len())
+}
+
+/// A flight is opened, and again: the first wrong reply, the room that is left, and the lengths of opening and history.
+fn opened_twice(alloc: Global) -> Result<(Option<usize>, u64, (usize, usize)), Fail> {
+    let mut keeper = MemoryKeeper::new(alloc);
+    let mut office = Office::start(alloc, fleet(alloc)?, 3, &mut keeper)?;
+    let talk = b"new|1|opened\nnew|1|exists\nrow|1|as opened";
+    let wrong = first_wrong(alloc, &mut office, &mut keeper, talk)?;
+    Ok((wrong, office.spare(), lengths_of(office)))
+}
+
+#[test]
+fn a_flight_is_opened_once(rt: HostRuntime) -> Result<(), Fail> {
+    assert_eq!(rt; opened_twice(rt.alloc())?, (None, 0, (0, 3)));
+    Ok(())
+}
+
+fn is_failure(entry: &Entry) -> bool {
+    entry.outcome == Outcome::KeeperFailed
+}
+
+/// The first failure of a history's keeper, and how many there are.
+fn failures_in(history: &[Entry]) -> (Option<usize>, usize) {
+    (
+        history.iter().position(is_failure),
+        history.iter().filter(|entry| is_failure(entry)).count(),
+    )
+}
+
+/// The second commit fails: the first wrong reply, and the failures.
+fn failing_once(alloc: Global) -> Result<(Option<usize>, (Option<usize>, usize)), Fail> {
+    let mut keeper = FailingKeeper::new(alloc, Vec::new(alloc), vec![in alloc; 2]?);
+    let mut office = Office::start(alloc, fleet(alloc)?, 20, &mut keeper)?;
+    let talk = b"new|1|opened\nfuel|1|keeper fault\nrow|1|as opened\nfuel|1|edition 2";
+    let wrong = first_wrong(alloc, &mut office, &mut keeper, talk)?;
+    Ok((wrong, failures_in(office.history())))
 }
 
 #[test]
 fn a_commit_that_fails_changes_nothing(rt: HostRuntime) -> Result<(), Fail> {
-    let alloc = rt.alloc();
-    let mut commits = Vec::new(alloc);
-    commits.push(2)?;
-    let mut keeper = FailingKeeper::new(alloc, Vec::new(alloc), commits);
-    let mut office = open(alloc, &mut keeper)?;
-    assert_eq!(rt;
-        set(alloc, &mut office, &mut keeper, 1, fuel())?,
-        Said::KeeperFault
-    );
-    assert!(rt; is_as_opened(alloc, &mut office, &mut keeper)?);
-    assert_eq!(rt;
-        set(alloc, &mut office, &mut keeper, 1, fuel())?,
-        Said::Edition(2)
-    );
-    let outcomes: [Outcome; 4] = [
-        Outcome::Done,
-        Outcome::KeeperFailed,
-        Outcome::Done,
-        Outcome::Done,
-    ];
-    for (entry, outcome) in office.history().iter().zip(outcomes) {
-        assert_eq!(rt; entry.outcome, outcome);
-    }
+    assert_eq!(rt; failing_once(rt.alloc())?, (None, (Some(1), 1)));
     Ok(())
 }
 
@@ -465,32 +433,79 @@ fn a_row_without_its_end_starts_no_office(rt: HostRuntime) -> Result<(), Fail> {
     Ok(())
 }
 
+/// The row of the flight.
+fn row<K: Keeper>(alloc: Global, office: &mut Office, keeper: &mut K) -> Result<Bytes, Fail> {
+    match reply_to(alloc, office, keeper, request_of(b"row", 1)?)? {
+        Reply::Row(row) => Ok(row),
+        _ => Err(Fail::new("the flight has a row")),
+    }
+}
+
+/// The row of a flight in an office, which keeps it.
+fn kept_row(alloc: Global, keeper: &mut MemoryKeeper) -> Result<Bytes, Fail> {
+    let mut office = Office::start(alloc, fleet(alloc)?, 20, keeper)?;
+    if first_wrong(alloc, &mut office, keeper, PLANNED)?.is_some() {
+        return Err(Fail::new("each reply is the one that is due"));
+    }
+    row(alloc, &mut office, keeper)
+}
+
+/// How many flights another office opens with on what was kept, and the row of the flight.
+fn opened_row(alloc: Global, keeper: &mut MemoryKeeper) -> Result<(usize, Bytes), Fail> {
+    let mut office = Office::start(alloc, fleet(alloc)?, 3, keeper)?;
+    let flights = office.opening().len();
+    Ok((flights, row(alloc, &mut office, keeper)?))
+}
+
 #[test]
 fn an_office_goes_on_with_the_kept_rows(rt: HostRuntime) -> Result<(), Fail> {
-    let alloc = rt.alloc();
-    let mut keeper = MemoryKeeper::new(alloc);
-    let mut office = planned(alloc, &mut keeper)?;
-    let shown = row(alloc, &mut office, &mut keeper)?;
-    let mut again = Office::start(alloc, fleet(alloc)?, 3, &mut keeper)?;
-    assert_eq!(rt; again.opening().len(), 1);
-    assert!(rt; row(alloc, &mut again, &mut keeper)?.as_slice() == shown.as_slice());
+    let mut keeper = MemoryKeeper::new(rt.alloc());
+    let shown = kept_row(rt.alloc(), &mut keeper)?;
+    let (flights, row) = opened_row(rt.alloc(), &mut keeper)?;
+    assert_eq!(rt; flights, 1);
+    assert!(rt; row.as_slice() == shown.as_slice());
     Ok(())
+}
+
+/// The edition, the releases, the fuel and the number of late changes of a flight.
+fn figures_of(s: &FlightState) -> (u32, u32, Kg, usize) {
+    let changes = s.lmcs.as_slice().len();
+    (s.edition, s.releases, s.base.fuel.take_off, changes)
+}
+
+/// These figures of the flight, as the history has them.
+fn standing_in(
+    alloc: Global,
+    aircraft: &Aircraft,
+    history: &[Entry],
+) -> Result<(u32, u32, Kg, usize), Fail> {
+    let opened = new_flight(alloc, aircraft, leg(b"DAIAB")?);
+    match &standing_after(alloc, &opened, history) {
+        Ok(Some(standing)) => Ok(figures_of(standing)),
+        Ok(None) => Err(Fail::new("the numbers are within their types")),
+        Err(_) => Err(Fail::new("there is memory")),
+    }
+}
+
+/// An office with a flight that is planned, released and changed late.
+fn worked_office(alloc: Global) -> Result<Office, Fail> {
+    let mut keeper = MemoryKeeper::new(alloc);
+    let mut office = Office::start(alloc, fleet(alloc)?, 20, &mut keeper)?;
+    if first_wrong(alloc, &mut office, &mut keeper, LATE)?.is_some() {
+        return Err(Fail::new("each reply is the one that is due"));
+    }
+    Ok(office)
+}
+
+/// The figures of the worked office's flight, as its history has them.
+fn worked_standing(alloc: Global) -> Result<(u32, u32, Kg, usize), Fail> {
+    let office = worked_office(alloc)?;
+    let aircraft = aircraft(alloc)?;
+    standing_in(alloc, &aircraft, office.history())
 }
 
 #[test]
 fn the_standing_is_that_of_the_history(rt: HostRuntime) -> Result<(), Fail> {
-    let alloc = rt.alloc();
-    let mut keeper = MemoryKeeper::new(alloc);
-    let mut office = planned(alloc, &mut keeper)?;
-    let _ = ask(alloc, &mut office, &mut keeper, release(2)?)?;
-    let _ = ask(alloc, &mut office, &mut keeper, late(2)?)?;
-    let opened = new_flight(alloc, &aircraft(alloc)?, leg(b"DAIAB")?);
-    let Some(standing) = standing_after(alloc, &opened, office.history())? else {
-        return Err(Fail::new("the numbers are within their types"));
-    };
-    assert_eq!(rt; standing.edition, 3);
-    assert_eq!(rt; standing.releases, 1);
-    assert_eq!(rt; standing.base.fuel.take_off.0, 9_000);
-    assert_eq!(rt; standing.lmcs.as_slice().len(), 1);
+    assert_eq!(rt; worked_standing(rt.alloc())?, (3, 1, Kg(9_000), 1));
     Ok(())
 }

@@ -1,5 +1,5 @@
 // The search over small tasks: beside a trial of every list of position numbers, and its whole certificates.
-use crate::small_tasks::{Edit, task_of_row, task_with};
+use crate::small_tasks::{field_at, task_of_row};
 use certificate::Certificate;
 use hold_limits::{
     Path, Task, hold_index_of, is_in_window, is_sound, lateral_difference_of, outcome,
@@ -61,10 +61,6 @@ fn best_path(answer: &Answer) -> Option<&[u8]> {
     }
 }
 
-const TWINS: Edit = ("item AKE10002XX 800", "item AKE10002XX 1000");
-
-const NO_ITEMS: Edit = ("item AKE10001XX 1000\nitem AKE10002XX 800\n", "");
-
 /// Small tasks, a row for each: its name, and then pairs of a text of the worked task and of what stands in its place. A `~`
 /// stands for the end of a line.
 const SMALL_TASKS: &[u8] = b"the worked task
@@ -105,93 +101,67 @@ fn the_best_path_is_what_a_trial_finds(rt: HostRuntime) -> Result<(), Fail> {
     Ok(())
 }
 
-/// A certificate that was worked out by hand, with as many near prefixes as the budget.
-struct Worked {
-    name: &'static str,
-    edits: &'static [Edit],
-    near: u32,
-    path: Option<&'static [u8]>,
-    cuts: &'static [&'static [u8]],
-    expanded: u32,
+/// Certificates that were worked out by hand, a row for each: what the certificate is, and edits of the worked task.
+const WORKED_BY_HAND: &[u8] =
+    b"Certificate { claim: Best([1, 2]), cuts: Cuts { list: [[0], [3]] }, expanded: 3 }
+Certificate { claim: Best([]), cuts: Cuts { list: [] }, expanded: 0 }|item AKE10001XX 1000~item AKE10002XX 800~|
+Certificate { claim: NoneFits, cuts: Cuts { list: [] }, expanded: 3 }|-100.00000 100.00000|0.00000 0.00000
+Certificate { claim: Best([0, 3]), cuts: Cuts { list: [[1], [2]] }, expanded: 2 }|item AKE10002XX 800|item AKE10002XX 1000
+Certificate { claim: NoneFits, cuts: Cuts { list: [] }, expanded: 2 }|item AKE10002XX 800|item AKE10002XX 1000|-100.00000 100.00000|0.00001 0.00001";
+
+/// How many prefixes of each are near: a budget that is just met.
+const NEAR: [u32; 5] = [4, 1, 3, 3, 2];
+
+/// What is said of an answer: its certificate, or the budget that is spent.
+fn said_of(alloc: Global, answer: &Answer) -> Result<String, Fail> {
+    match certificate(answer) {
+        Some(certificate) => Ok(format!(in alloc; "{certificate:?}")?),
+        None => Ok(String::from_str(alloc, "over its budget")?),
+    }
 }
 
-const WORKED_BY_HAND: &[Worked] = &[
-    Worked {
-        name: "the worked task",
-        edits: &[],
-        near: 4,
-        path: Some(&[1, 2]),
-        cuts: &[&[0], &[3]],
-        expanded: 3,
-    },
-    Worked {
-        name: "no container",
-        edits: &[NO_ITEMS],
-        near: 1,
-        path: Some(&[]),
-        cuts: &[],
-        expanded: 0,
-    },
-    Worked {
-        name: "a window that no path meets",
-        edits: &[("-100.00000 100.00000", "0.00000 0.00000")],
-        near: 3,
-        path: None,
-        cuts: &[],
-        expanded: 3,
-    },
-    Worked {
-        name: "two twins of 1,000 kg",
-        edits: &[TWINS],
-        near: 3,
-        path: Some(&[0, 3]),
-        cuts: &[&[1], &[2]],
-        expanded: 2,
-    },
-    Worked {
-        name: "two twins, and a window that no path meets",
-        edits: &[TWINS, ("-100.00000 100.00000", "0.00001 0.00001")],
-        near: 2,
-        path: None,
-        cuts: &[],
-        expanded: 2,
-    },
-];
+/// What is said of the answer to the task of a row within a budget.
+fn said_within(alloc: Global, row: &[u8], budget: u32) -> Result<String, Fail> {
+    let task = task_of_row(alloc, row)?;
+    said_of(alloc, &Direct.place(alloc, &task, budget)?)
+}
 
-fn are_cuts(certificate: &Certificate, cuts: &[&[u8]]) -> bool {
-    let found = certificate.cuts.as_slice();
-    found.len() == cuts.len()
-        && found
-            .iter()
-            .zip(cuts)
-            .all(|(path, cut)| path.as_slice() == *cut)
+/// The first row that has another certificate at its budget.
+fn first_wrong_certificate(alloc: Global) -> Result<Option<usize>, Fail> {
+    for (at, row) in WORKED_BY_HAND.split(|byte| *byte == b'\n').enumerate() {
+        let near = *NEAR.get(at).ok_or("a budget")?;
+        if said_within(alloc, row, near)? != field_at(alloc, row, 0)? {
+            return Ok(Some(at));
+        }
+    }
+    Ok(None)
 }
 
 #[test]
 fn the_certificates_are_those_worked_out_by_hand(rt: HostRuntime) -> Result<(), Fail> {
-    for worked in WORKED_BY_HAND {
-        let name = worked.name;
-        let task = task_with(rt.alloc(), worked.edits)?;
-        let answer = Direct.place(rt.alloc(), &task, worked.near)?;
-        let found = certificate(&answer).ok_or("a certificate")?;
-        assert_eq!(rt; best_path(&answer), worked.path, "at {}", name);
-        assert!(rt; are_cuts(found, worked.cuts), "at {}", name);
-        assert_eq!(rt; found.expanded, worked.expanded, "at {}", name);
-    }
+    assert_eq!(rt; first_wrong_certificate(rt.alloc())?, None);
     Ok(())
+}
+
+/// Whether a budget is spent on the task of a row.
+fn is_spent(alloc: Global, row: &[u8], budget: u32) -> Result<bool, Fail> {
+    let task = task_of_row(alloc, row)?;
+    Ok(matches!(place(alloc, &task, budget)?, Answer::Budget(n) if n == budget))
+}
+
+/// The first row that does not spend a budget of one near prefix less.
+fn first_unspent(alloc: Global) -> Result<Option<usize>, Fail> {
+    for (at, row) in WORKED_BY_HAND.split(|byte| *byte == b'\n').enumerate() {
+        let near = *NEAR.get(at).ok_or("a budget")?;
+        if !is_spent(alloc, row, near.saturating_sub(1))? {
+            return Ok(Some(at));
+        }
+    }
+    Ok(None)
 }
 
 #[test]
 fn one_near_prefix_more_than_the_budget_spends_it(rt: HostRuntime) -> Result<(), Fail> {
-    for worked in WORKED_BY_HAND {
-        let task = task_with(rt.alloc(), worked.edits)?;
-        let budget = worked.near.saturating_sub(1);
-        let answer = place(rt.alloc(), &task, budget)?;
-        assert!(rt;
-            matches!(answer, Answer::Budget(n) if n == budget),
-            "at {}",
-            worked.name
-        );
-    }
+    assert_eq!(rt; first_unspent(rt.alloc())?, None);
     Ok(())
 }

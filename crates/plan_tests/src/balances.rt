@@ -1,11 +1,11 @@
 // Tasks of a few containers in a hold of two compartments, and what placements of them are worth.
-use crate::small_tasks::{Edit, task_with};
+use crate::small_tasks::{Edit, field_at, numbers_of, task_with, text_of};
 use hold_limits::{
     Hold, HoldFault, Item, Lateral, Loose, Path, Task, TaskFault, UldId, distance_from_ideal,
     hold_index_of, is_in_window, is_rising, is_sound, lateral_difference_of, lateral_of, outcome,
 };
 use mass_units::{Kg, Ticks};
-use std::alloc::Global;
+use std::alloc::{AllocError, Global};
 use std::test::Fail;
 
 /// The containers offered the other way round, so that branch order turns them back.
@@ -24,21 +24,31 @@ const SIDES: Edit = (
     "side 11 right\nside 12 left\nside 41 left\nside 42 right\nside 51 right\nlateral 500\nitem AKE10001XX",
 );
 
-#[test]
-fn a_hold_knows_its_positions_by_number(rt: HostRuntime) -> Result<(), Fail> {
-    let task = task_with(rt.alloc(), &[])?;
-    let hold = task.hold();
+/// What a hold tells of its positions 3, 4 and 5, and of a container.
+fn told_by_number(alloc: Global, hold: &Hold) -> Result<String, Fail> {
     let container = Item {
         id: UldId::read(b"AKE10001XX").ok_or("an identity")?,
         mass: Kg(1500),
     };
-    assert_eq!(rt; hold.position_count(), 5);
-    assert_eq!(rt; hold.name_at(3), b"42".as_slice());
-    assert_eq!(rt; hold.name_at(5), b"".as_slice());
-    assert_eq!(rt; hold.influence_at(3), 600);
-    assert!(rt; hold.accepts_at(&container, 3));
-    assert!(rt; !hold.accepts_at(&container, 4));
-    assert!(rt; !hold.exclude_each_other(0, 1));
+    let names = [text_of(hold.name_at(3))?, text_of(hold.name_at(5))?];
+    let accepted = (
+        hold.accepts_at(&container, 3),
+        hold.accepts_at(&container, 4),
+    );
+    let numbers = (hold.position_count(), hold.influence_at(3));
+    Ok(format!(in alloc;
+        "{numbers:?} {names:?} {accepted:?} {}",
+        hold.exclude_each_other(0, 1)
+    )?)
+}
+
+#[test]
+fn a_hold_knows_its_positions_by_number(rt: HostRuntime) -> Result<(), Fail> {
+    let task = task_with(rt.alloc(), &[])?;
+    assert_eq!(rt;
+        told_by_number(rt.alloc(), task.hold())?.as_str(),
+        "(5, 600) [\"42\", \"\"] (true, false) false"
+    );
     Ok(())
 }
 
@@ -51,20 +61,43 @@ fn a_path_has_its_take_off_index_and_its_distance(rt: HostRuntime) -> Result<(),
     Ok(())
 }
 
+/// What is asked of a placement: its hold index, its lateral difference, or whether twins rise.
+#[derive(Clone, Copy)]
+enum Asked {
+    Index,
+    Difference,
+    Rising,
+}
+
+/// What is told of the placement of the first containers on these positions.
+fn told_of(alloc: Global, task: &Task, prefix: &[u8], asked: Asked) -> Result<String, Fail> {
+    if prefix.len() > task.items().len() {
+        return Err("a container for each position".into());
+    }
+    Ok(match asked {
+        Asked::Index => format!(in alloc; "{} ", hold_index_of(task, prefix).0)?,
+        Asked::Difference => format!(in alloc; "{} ", lateral_difference_of(task, prefix))?,
+        Asked::Rising => format!(in alloc; "{} ", is_rising(task, prefix))?,
+    })
+}
+
+/// The same of placements with a comma between them, a digit for each position.
+fn told_of_each(alloc: Global, task: &Task, prefixes: &[u8], asked: Asked) -> Result<String, Fail> {
+    let mut told = String::new(alloc);
+    for digits in prefixes.split(|byte| *byte == b',') {
+        let prefix = numbers_of(alloc, digits)?;
+        told.push_str(told_of(alloc, task, prefix.as_slice(), asked)?.as_str())?;
+    }
+    Ok(told)
+}
+
 #[test]
 fn loose_loads_count_and_unknown_positions_do_not(rt: HostRuntime) -> Result<(), Fail> {
     let task = task_with(rt.alloc(), &[TURNED, BULK_100])?;
-    let cases: [(&[u8], i64); 5] = [
-        (&[], 70_000),
-        (&[3], 670_000),
-        (&[9], 70_000),
-        (&[1, 2], -10_000),
-        (&[2, 1], 150_000),
-    ];
-    for (prefix, ticks) in cases {
-        assert!(rt; prefix.len() <= task.items().len());
-        assert_eq!(rt; hold_index_of(&task, prefix), Ticks(ticks));
-    }
+    assert_eq!(rt;
+        told_of_each(rt.alloc(), &task, b",3,9,12,21", Asked::Index)?.as_str(),
+        "70000 670000 70000 -10000 150000 "
+    );
     Ok(())
 }
 
@@ -80,50 +113,75 @@ fn both_ends_belong_to_the_window(rt: HostRuntime) -> Result<(), Fail> {
     Ok(())
 }
 
+/// The distances of take-off indices from the ideal band.
+fn distances_of(alloc: Global, task: &Task, indices: &[i64]) -> Result<Vec<u64>, Fail> {
+    let mut distances = Vec::new(alloc);
+    for take_off in indices {
+        distances.push(distance_from_ideal(task, Ticks(*take_off)))?;
+    }
+    Ok(distances)
+}
+
+const TAKE_OFFS: [i64; 7] = [
+    4_920_000,
+    5_000_000,
+    5_100_000,
+    5_200_000,
+    5_300_000,
+    i64::MIN,
+    i64::MAX,
+];
+
+const DISTANCES: [u64; 7] = [
+    80_000,
+    0,
+    0,
+    0,
+    100_000,
+    9_223_372_036_859_775_808,
+    9_223_372_036_849_575_807,
+];
+
 #[test]
 fn the_distance_is_to_the_nearer_end_of_the_band(rt: HostRuntime) -> Result<(), Fail> {
-    let task = task_with(
-        rt.alloc(),
-        &[("ideal 50.00000 50.00000", "ideal 50.00000 52.00000")],
-    )?;
-    let cases = [
-        (4_920_000, 80_000),
-        (5_000_000, 0),
-        (5_100_000, 0),
-        (5_200_000, 0),
-        (5_300_000, 100_000),
-        (i64::MIN, 9_223_372_036_859_775_808),
-        (i64::MAX, 9_223_372_036_849_575_807),
-    ];
-    for (take_off, ticks) in cases {
-        assert_eq!(rt;
-            distance_from_ideal(&task, Ticks(take_off)),
-            ticks,
-            "at {take_off}"
-        );
-    }
+    let wider = ("ideal 50.00000 50.00000", "ideal 50.00000 52.00000");
+    let task = task_with(rt.alloc(), &[wider])?;
+    assert_eq!(rt;
+        distances_of(rt.alloc(), &task, &TAKE_OFFS)?.as_slice(),
+        DISTANCES.as_slice()
+    );
     Ok(())
+}
+
+/// The fault of a task of this hold in which one index is beyond the limit.
+fn fault_beyond(alloc: Global, hold: Hold, which: usize) -> Option<TaskFault> {
+    let at = |place: usize| Ticks(if place == which { -1_000_000_001 } else { 0 });
+    Task::new(
+        hold,
+        Vec::new(alloc),
+        Vec::new(alloc),
+        at(1),
+        at(2),
+        at(3),
+        at(4),
+        at(5),
+    )
+    .err()
 }
 
 #[test]
 fn an_index_beyond_the_limit_is_named_by_its_number(rt: HostRuntime) -> Result<(), Fail> {
     let alloc = rt.alloc();
-    let task = task_with(alloc, &[])?;
     for which in 1..6 {
-        let at = |place: usize| Ticks(if place == which { -1_000_000_001 } else { 0 });
-        let made = Task::new(
-            task.hold().copy(alloc)?,
-            Vec::new(alloc),
-            Vec::new(alloc),
-            at(1),
-            at(2),
-            at(3),
-            at(4),
-            at(5),
-        );
-        assert_eq!(rt; made.err(), Some(TaskFault::Range(which)));
+        let fault = fault_beyond(alloc, hold_with(alloc, &[])?, which);
+        assert_eq!(rt; fault, Some(TaskFault::Range(which)));
     }
     Ok(())
+}
+
+/// Whether a task is the same as the worked one with these edits.
+fn is_same_as(alloc: Global, task: &Task, edits: &[Edit]) -> Result<bool, Fail> {
+    Ok(task.same(&task_with(alloc, edits)?))
 }
 
 #[test]
@@ -132,9 +190,9 @@ fn a_copy_is_the_same_task_and_another_window_is_not(rt: HostRuntime) -> Result<
     let no_mass = ("base", "loose 51 0\nbase");
     let one = task_with(alloc, &[no_mass])?;
     assert!(rt; one.same(&one.copy(alloc)?));
-    assert!(rt; !one.same(&task_with(alloc, &[])?));
+    assert!(rt; !is_same_as(alloc, &one, &[])?);
     let wider = ("ideal 50.00000 50.00000", "ideal 50.00000 50.00001");
-    assert!(rt; !one.same(&task_with(alloc, &[no_mass, wider])?));
+    assert!(rt; !is_same_as(alloc, &one, &[no_mass, wider])?);
     Ok(())
 }
 
@@ -143,138 +201,191 @@ fn hold_with(alloc: Global, edits: &[Edit]) -> Result<Hold, Fail> {
     Ok(task_with(alloc, edits)?.hold().copy(alloc)?)
 }
 
+/// The lateral limit of a hold, its number of sides, and the sides of positions 0 to 5.
+fn sides_text(alloc: Global, hold: &Hold) -> Result<String, AllocError> {
+    let most = hold.lateral().map(|lateral| lateral.most);
+    let mut text = format!(in alloc; "{most:?} {}:", hold.sides().len())?;
+    for number in 0..6 {
+        text.push_str(format!(in alloc; " {}", hold.side_at(number))?.as_str())?;
+    }
+    Ok(text)
+}
+
 #[test]
 fn a_lateral_limit_gives_positions_their_sides(rt: HostRuntime) -> Result<(), Fail> {
-    let alloc = rt.alloc();
-    let plain = hold_with(alloc, &[])?;
-    let sided = hold_with(alloc, &[TASK_2, SIDES])?;
-    assert!(rt; plain.lateral().is_none());
-    assert!(rt; plain.sides().is_empty());
-    assert_eq!(rt; sided.lateral().map(|lateral| lateral.most), Some(Kg(500)));
-    assert_eq!(rt; sided.sides().len(), 5);
-    for (number, side) in [(0, 1), (1, -1), (2, -1), (3, 1), (4, 1), (5, 0)] {
-        assert_eq!(rt; sided.side_at(number), side, "at {number}");
-        assert_eq!(rt; plain.side_at(number), 0, "at {number}");
-    }
-    assert!(rt; sided.same(&sided.copy(alloc)?));
-    assert!(rt; !sided.same(&plain));
-    let wider = hold_with(alloc, &[TASK_2, SIDES, ("lateral 500", "lateral 501")])?;
-    assert!(rt; !sided.same(&wider));
+    let plain = hold_with(rt.alloc(), &[])?;
+    assert_eq!(rt;
+        sides_text(rt.alloc(), &plain)?.as_str(),
+        "None 0: 0 0 0 0 0 0"
+    );
+    let sided = hold_with(rt.alloc(), &[TASK_2, SIDES])?;
+    assert_eq!(rt;
+        sides_text(rt.alloc(), &sided)?.as_str(),
+        "Some(Kg(500)) 5: 1 -1 -1 1 1 0"
+    );
     Ok(())
+}
+
+/// Whether a hold is the same as that of the worked task with these edits.
+fn is_same_hold(alloc: Global, hold: &Hold, edits: &[Edit]) -> Result<bool, Fail> {
+    Ok(hold.same(&hold_with(alloc, edits)?))
+}
+
+#[test]
+fn holds_with_other_lateral_limits_are_not_the_same(rt: HostRuntime) -> Result<(), Fail> {
+    let alloc = rt.alloc();
+    let sided = hold_with(alloc, &[TASK_2, SIDES])?;
+    assert!(rt; sided.same(&sided.copy(alloc)?));
+    assert!(rt; !is_same_hold(alloc, &sided, &[])?);
+    let wider = ("lateral 500", "lateral 501");
+    assert!(rt; !is_same_hold(alloc, &sided, &[TASK_2, SIDES, wider])?);
+    Ok(())
+}
+
+/// Sides of positions, a row for each: the fault that they have, and the positions, `l` for those on the left.
+const LISTED_SIDES: &[u8] = b"None|
+None|2l4r
+Some(Side(0))|5r
+Some(Side(1))|0r0l
+Some(Side(1))|1r0r
+Some(Side(2))|0r2l2l
+Some(Side(2))|0r3r9l1r";
+
+/// The sides that are spelled so.
+fn sides_in(alloc: Global, spelled: &[u8]) -> Result<Vec<(u8, bool)>, Fail> {
+    let mut sides = Vec::new(alloc);
+    let mut number = 0;
+    for byte in spelled {
+        match *byte {
+            b'l' => sides.push((number, false))?,
+            b'r' => sides.push((number, true))?,
+            digit => number = digit & 15,
+        }
+    }
+    Ok(sides)
+}
+
+/// The fault of the worked hold with the sides that are spelled so.
+fn fault_of_sides(alloc: Global, spelled: &[u8]) -> Result<String, Fail> {
+    let lateral = Lateral {
+        most: Kg(500),
+        sides: sides_in(alloc, spelled)?.into(),
+    };
+    let made = hold_with(alloc, &[])?.with_lateral(lateral);
+    Ok(format!(in alloc; "{:?}", made.err())?)
+}
+
+/// The first row of sides that have another fault.
+fn first_wrong_sides(alloc: Global) -> Result<Option<usize>, Fail> {
+    for (at, row) in LISTED_SIDES.split(|byte| *byte == b'\n').enumerate() {
+        let spelled = field_at(alloc, row, 1)?;
+        if fault_of_sides(alloc, spelled.as_bytes())? != field_at(alloc, row, 0)? {
+            return Ok(Some(at));
+        }
+    }
+    Ok(None)
 }
 
 #[test]
 fn sides_are_of_known_positions_in_rising_order(rt: HostRuntime) -> Result<(), Fail> {
-    let alloc = rt.alloc();
-    let cases: [(&[(u8, bool)], Option<usize>); 7] = [
-        (&[], None),
-        (&[(2, false), (4, true)], None),
-        (&[(5, true)], Some(0)),
-        (&[(0, true), (0, false)], Some(1)),
-        (&[(1, true), (0, true)], Some(1)),
-        (&[(0, true), (2, false), (2, false)], Some(2)),
-        (&[(0, true), (3, true), (9, false), (1, true)], Some(2)),
-    ];
-    for (sides, wrong) in cases {
-        let lateral = Lateral {
-            most: Kg(500),
-            sides: sides.to_vec(alloc)?.into(),
-        };
-        let made = hold_with(alloc, &[])?.with_lateral(lateral);
-        assert_eq!(rt; made.err(), wrong.map(HoldFault::Side));
-    }
+    assert_eq!(rt; first_wrong_sides(rt.alloc())?, None);
     Ok(())
+}
+
+const BEYOND: [i64; 3] = [501, -501, i64::MIN];
+
+/// How many of the differences are within the lateral limit.
+fn count_within(hold: &Hold, differences: &[i64]) -> usize {
+    differences
+        .iter()
+        .filter(|difference| hold.is_within_lateral(**difference))
+        .count()
 }
 
 #[test]
 fn a_difference_that_meets_the_lateral_limit_is_within_it(rt: HostRuntime) -> Result<(), Fail> {
-    let plain = hold_with(rt.alloc(), &[])?;
     let sided = hold_with(rt.alloc(), &[TASK_2, SIDES])?;
-    for (difference, within) in [
-        (0, true),
-        (500, true),
-        (-500, true),
-        (501, false),
-        (-501, false),
-        (i64::MIN, false),
-    ] {
-        assert_eq!(rt; sided.is_within_lateral(difference), within, "{difference}");
-        assert!(rt; plain.is_within_lateral(difference), "{difference}");
-    }
+    assert_eq!(rt; count_within(&sided, &[0, 500, -500]), 3);
+    assert_eq!(rt; count_within(&sided, &BEYOND), 0);
+    Ok(())
+}
+
+#[test]
+fn each_difference_is_within_no_lateral_limit(rt: HostRuntime) -> Result<(), Fail> {
+    let plain = hold_with(rt.alloc(), &[])?;
+    assert_eq!(rt; count_within(&plain, &[0, 500, -500]), 3);
+    assert_eq!(rt; count_within(&plain, &BEYOND), 3);
     Ok(())
 }
 
 #[test]
 fn a_lateral_difference_is_right_less_left(rt: HostRuntime) -> Result<(), Fail> {
     let task = task_with(rt.alloc(), &[TASK_2, SIDES, BULK_100])?;
-    let cases: [(&[u8], i64); 6] = [
-        (&[], 100),
-        (&[1], -900),
-        (&[9], 100),
-        (&[1, 3], -100),
-        (&[0, 3], 1900),
-        (&[2, 1], -1700),
-    ];
-    for (prefix, difference) in cases {
-        assert!(rt; prefix.len() <= task.items().len());
-        assert_eq!(rt; lateral_difference_of(&task, prefix), difference);
-    }
+    assert_eq!(rt;
+        told_of_each(rt.alloc(), &task, b",1,9,13,03,21", Asked::Difference)?.as_str(),
+        "100 -900 100 -100 1900 -1700 "
+    );
     let path = Path::try_from([1, 3].as_slice())?;
     assert!(rt; is_sound(&task, path.as_slice()));
     assert_eq!(rt; lateral_of(&task, &path), -100);
     Ok(())
 }
 
+/// A container, and three of another mass, of which two are twins.
+const THREE_EQUAL: Edit = (
+    "item AKE10001XX 1000\nitem AKE10002XX 800\n",
+    "item AKE10001XX 900\nitem AKE10002XX 1000\nitem PMC10003XX 1000\nitem AKE10004XX 1000\n",
+);
+
 #[test]
 fn twins_rise_where_the_later_has_the_greater_number(rt: HostRuntime) -> Result<(), Fail> {
-    let items = (
-        "item AKE10001XX 1000\nitem AKE10002XX 800\n",
-        "item AKE10001XX 900\nitem AKE10002XX 1000\nitem PMC10003XX 1000\nitem AKE10004XX 1000\n",
+    let task = task_with(rt.alloc(), &[THREE_EQUAL])?;
+    let prefixes = b",32,102,120,121,1320,2310";
+    assert_eq!(rt;
+        told_of_each(rt.alloc(), &task, prefixes, Asked::Rising)?.as_str(),
+        "true true true false false true false "
     );
-    let task = task_with(rt.alloc(), &[items])?;
-    let cases: [(&[u8], bool); 7] = [
-        (&[], true),
-        (&[3, 2], true),
-        (&[1, 0, 2], true),
-        (&[1, 2, 0], false),
-        (&[1, 2, 1], false),
-        (&[1, 3, 2, 0], true),
-        (&[2, 3, 1, 0], false),
-    ];
-    for (prefix, rising) in cases {
-        assert!(rt; prefix.len() <= task.items().len());
-        assert_eq!(rt; is_rising(&task, prefix), rising, "{prefix:?}");
-    }
     Ok(())
+}
+
+/// So many containers of one mass.
+fn many_items(alloc: Global, count: u8) -> Result<Vec<Item>, Fail> {
+    let mut items = Vec::new(alloc);
+    for number in 0..count {
+        let mut id = *b"AKE10000XX";
+        id[6] += number / 10;
+        id[7] += number % 10;
+        items.push(Item {
+            id: UldId::read(&id).ok_or("an identity")?,
+            mass: Kg(1000),
+        })?;
+    }
+    Ok(items)
+}
+
+/// The fault of a task with so many containers.
+fn fault_of_many(alloc: Global, count: u8) -> Result<Option<TaskFault>, Fail> {
+    let hold = hold_with(alloc, &[])?;
+    let loose: Vec<Loose> = Vec::new(alloc);
+    let made = Task::new(
+        hold,
+        many_items(alloc, count)?,
+        loose,
+        Ticks(0),
+        Ticks(0),
+        Ticks(0),
+        Ticks(0),
+        Ticks(0),
+    );
+    Ok(made.err())
 }
 
 #[test]
 fn a_task_has_up_to_sixty_containers(rt: HostRuntime) -> Result<(), Fail> {
-    let alloc = rt.alloc();
-    for (count, fault) in [(60, None), (61, Some(TaskFault::TooManyItems))] {
-        let mut items = Vec::new(alloc);
-        for number in 0..count {
-            let mut id = *b"AKE10000XX";
-            id[6] += number / 10;
-            id[7] += number % 10;
-            items.push(Item {
-                id: UldId::read(&id).ok_or("an identity")?,
-                mass: Kg(1000),
-            })?;
-        }
-        let hold = hold_with(alloc, &[])?;
-        let loose: Vec<Loose> = Vec::new(alloc);
-        let made = Task::new(
-            hold,
-            items,
-            loose,
-            Ticks(0),
-            Ticks(0),
-            Ticks(0),
-            Ticks(0),
-            Ticks(0),
-        );
-        assert_eq!(rt; made.err(), fault, "{count}");
-    }
+    assert_eq!(rt; fault_of_many(rt.alloc(), 60)?, None);
+    assert_eq!(rt;
+        fault_of_many(rt.alloc(), 61)?,
+        Some(TaskFault::TooManyItems)
+    );
     Ok(())
 }

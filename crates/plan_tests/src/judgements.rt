@@ -1,5 +1,5 @@
 // Certificates of small tasks: the worked ones, and many beside a plain program of what makes the first reason.
-use crate::small_tasks::{Edit, task_of_row, task_with};
+use crate::small_tasks::{Edit, field_at, numbers_of, task_of_row, task_with};
 use cert_checker::{NoPlan, Proven, Reject, check};
 use certificate::{Certificate, Claim};
 use hold_limits::{Path, Task, hold_index_of, is_in_window, is_sound, outcome};
@@ -23,29 +23,33 @@ loose loads over a limit|item AKE10001XX|combined 99 11 51~item AKE10001XX|base|
 fn cuts_of(alloc: Global, spelled: &[u8]) -> Result<Vec<Path>, Fail> {
     let mut cuts = Vec::new(alloc);
     let mut cut: Vec<u8> = Vec::new(alloc);
-    for number in spelled {
-        if *number == 9 {
+    for digit in spelled {
+        if *digit == b'9' {
             cuts.push(Path::try_from(cut.as_slice())?)?;
             cut = Vec::new(alloc);
         } else {
-            cut.push(*number)?;
+            cut.push(*digit & 15)?;
         }
     }
     Ok(cuts)
 }
 
+// The claim that is spelled so: the digits of a path, or `none`.
+fn claim_of(alloc: Global, spelled: &[u8]) -> Result<Claim, Fail> {
+    if spelled == b"none".as_slice() {
+        return Ok(Claim::NoneFits);
+    }
+    Ok(Claim::Best(Path::try_from(numbers_of(alloc, spelled)?.as_slice())?))
+}
+
 fn certificate(
     alloc: Global,
-    claim: Option<&[u8]>,
+    claim: &[u8],
     cuts: &[u8],
     expanded: u32,
 ) -> Result<Certificate, Fail> {
-    let claim = match claim {
-        Some(path) => Claim::Best(Path::try_from(path)?),
-        None => Claim::NoneFits,
-    };
     Ok(Certificate {
-        claim,
+        claim: claim_of(alloc, claim)?,
         cuts: cuts_of(alloc, cuts)?.into(),
         expanded,
     })
@@ -65,91 +69,65 @@ fn number_of(verdict: &Result<(), Reject>) -> u8 {
     }
 }
 
-// The place that a verdict carries, and 0 where it carries none.
-fn place_in(verdict: &Result<(), Reject>) -> usize {
-    match verdict {
-        Err(Reject::CutOrder(at) | Reject::CutNotViable(at) | Reject::CutWeak(at)) => *at,
-        _ => 0,
+/// Certificates of the worked task, a row for each: what a check says of it, the claimed path, the cuts, and the number of
+/// expanded prefixes.
+const JUDGED: &[u8] = b"Ok(())|12|0939|3
+Err(CutWeak(1))|12|091939|3
+Err(MoreExpanded)|12|0939|2
+Err(Nearer([1, 2]))|20|0939|3
+Err(CutOrder(1))|12|3909|3
+Err(Exists([0, 1]))|none||2";
+
+/// What a check says of the certificate of a row.
+fn said_of(alloc: Global, task: &Task, row: &[u8]) -> Result<String, Fail> {
+    let claim = field_at(alloc, row, 1)?;
+    let cuts = field_at(alloc, row, 2)?;
+    let expanded = field_at(alloc, row, 3)?.as_str().parse();
+    let expanded: u32 = expanded.map_err(|_| Fail::new("a number"))?;
+    let certificate = certificate(alloc, claim.as_bytes(), cuts.as_bytes(), expanded)?;
+    Ok(format!(in alloc; "{:?}", check(task, &certificate))?)
+}
+
+/// The first row of which a check says something else.
+fn first_wrong(alloc: Global, task: &Task) -> Result<Option<usize>, Fail> {
+    for (at, row) in JUDGED.split(|byte| *byte == b'\n').enumerate() {
+        if said_of(alloc, task, row)? != field_at(alloc, row, 0)? {
+            return Ok(Some(at));
+        }
     }
-}
-
-// The path that a verdict carries, and an empty one where it carries none.
-fn path_in(verdict: &Result<(), Reject>) -> &[u8] {
-    match verdict {
-        Err(Reject::Nearer(path) | Reject::Exists(path)) => path.as_slice(),
-        _ => &[],
-    }
-}
-
-// A certificate of the worked task, and what a check says of it.
-#[derive(Clone, Copy)]
-struct Judged {
-    claim: Option<&'static [u8]>,
-    cuts: &'static [u8],
-    expanded: u32,
-    number: u8,
-    place: usize,
-    path: &'static [u8],
-}
-
-fn row(
-    claim: Option<&'static [u8]>,
-    cuts: &'static [u8],
-    expanded: u32,
-    number: u8,
-    place: usize,
-    path: &'static [u8],
-) -> Judged {
-    Judged {
-        claim,
-        cuts,
-        expanded,
-        number,
-        place,
-        path,
-    }
-}
-
-// Whether a check says so of the certificate of the worked task.
-fn is_judged(alloc: Global, row: Judged) -> Result<bool, Fail> {
-    let task = task_with(alloc, &[])?;
-    let certificate = certificate(alloc, row.claim, row.cuts, row.expanded)?;
-    let verdict = check(&task, &certificate);
-    Ok(
-        number_of(&verdict) == row.number
-            && place_in(&verdict) == row.place
-            && path_in(&verdict) == row.path,
-    )
+    Ok(None)
 }
 
 #[test]
 fn the_worked_certificates_are_judged(rt: HostRuntime) -> Result<(), Fail> {
-    let good = row(Some(&[1, 2]), &[0, 9, 3, 9], 3, 0, 0, &[]);
-    assert!(rt; is_judged(rt.alloc(), good)?);
-    let weak = row(Some(&[1, 2]), &[0, 9, 1, 9, 3, 9], 3, 4, 1, &[]);
-    assert!(rt; is_judged(rt.alloc(), weak)?);
-    let more = row(Some(&[1, 2]), &[0, 9, 3, 9], 2, 7, 0, &[]);
-    assert!(rt; is_judged(rt.alloc(), more)?);
-    let nearer = row(Some(&[2, 0]), &[0, 9, 3, 9], 3, 5, 0, &[1, 2]);
-    assert!(rt; is_judged(rt.alloc(), nearer)?);
-    let disorder = row(Some(&[1, 2]), &[3, 9, 0, 9], 3, 2, 1, &[]);
-    assert!(rt; is_judged(rt.alloc(), disorder)?);
-    let exists = row(None, &[], 2, 6, 0, &[0, 1]);
-    assert!(rt; is_judged(rt.alloc(), exists)?);
+    let task = task_with(rt.alloc(), &[])?;
+    assert_eq!(rt; first_wrong(rt.alloc(), &task)?, None);
     Ok(())
+}
+
+/// The path, the number of containers and the number of expanded prefixes of a best path with its evidence.
+fn proven_parts(alloc: Global) -> Result<(Vec<u8>, usize, u32), Fail> {
+    let best = certificate(alloc, b"12", b"0939", 3)?;
+    let proven = Proven::new(task_with(alloc, &[])?, best)?;
+    let path = proven.path().as_slice().to_vec(alloc)?;
+    let containers = proven.task().items().len();
+    Ok((path, containers, proven.certificate().expanded))
+}
+
+/// The same numbers of a task without a path.
+fn no_plan_parts(alloc: Global) -> Result<(usize, u32), Fail> {
+    let none = certificate(alloc, b"none", b"", 3)?;
+    let no_plan = NoPlan::new(task_with(alloc, &[NARROW])?, none)?;
+    let containers = no_plan.task().items().len();
+    Ok((containers, no_plan.certificate().expanded))
 }
 
 #[test]
 fn evidence_is_kept_with_its_task(rt: HostRuntime) -> Result<(), Fail> {
-    let best = certificate(rt.alloc(), Some(&[1, 2]), &[0, 9, 3, 9], 3)?;
-    let proven = Proven::new(task_with(rt.alloc(), &[])?, best)?;
-    assert_eq!(rt; proven.path().as_slice(), &[1u8, 2][..]);
-    assert_eq!(rt; proven.task().items().len(), 2);
-    assert_eq!(rt; proven.certificate().expanded, 3);
-    let none = certificate(rt.alloc(), None, &[], 3)?;
-    let no_plan = NoPlan::new(task_with(rt.alloc(), &[NARROW])?, none)?;
-    assert_eq!(rt; no_plan.task().items().len(), 2);
-    assert_eq!(rt; no_plan.certificate().expanded, 3);
+    let (path, containers, expanded) = proven_parts(rt.alloc())?;
+    assert_eq!(rt; path.as_slice(), [1u8, 2].as_slice());
+    assert_eq!(rt; (containers, expanded), (2, 3));
+    assert_eq!(rt; no_plan_parts(rt.alloc())?, (2, 3));
     Ok(())
 }
 
@@ -270,75 +248,52 @@ fn plain_check(
 }
 
 // The number of the reason that a check gives, where the definition gives the same reason.
-fn agreed(task: &Task, prefixes: &[Vec<u8>], certificate: &Certificate) -> Result<u8, Fail> {
+fn agreed(
+    alloc: Global,
+    task: &Task,
+    prefixes: &[Vec<u8>],
+    certificate: &Certificate,
+) -> Result<u8, Fail> {
     let plain = plain_check(task, prefixes, certificate)?;
     let verdict = check(task, certificate);
-    if number_of(&verdict) != number_of(&plain)
-        || place_in(&verdict) != place_in(&plain)
-        || path_in(&verdict) != path_in(&plain)
-    {
+    if format!(in alloc; "{verdict:?}")? != format!(in alloc; "{plain:?}")? {
         return Err("the definition has another reason".into());
     }
     Ok(number_of(&verdict))
 }
 
 // The numbers of the reasons against certificates with this claim, these cuts, and the numbers 0 to 6.
-fn agree_on(
-    alloc: Global,
-    task: &Task,
-    claim: Option<&[u8]>,
-    cuts: &[u8],
-) -> Result<Vec<u8>, Fail> {
+fn agree_on(alloc: Global, task: &Task, claim: &[u8], cuts: &[u8]) -> Result<Vec<u8>, Fail> {
     let prefixes = all_prefixes(alloc, task.items().len().min(2))?;
     let mut numbers = Vec::new(alloc);
     for expanded in 0..7 {
         let certificate = certificate(alloc, claim, cuts, expanded)?;
-        numbers.push(agreed(task, prefixes.as_slice(), &certificate)?)?;
+        numbers.push(agreed(alloc, task, prefixes.as_slice(), &certificate)?)?;
     }
     Ok(numbers)
 }
 
-const CLAIMS: [Option<&[u8]>; 9] = [
-    None,
-    Some(&[]),
-    Some(&[1]),
-    Some(&[2]),
-    Some(&[1, 2]),
-    Some(&[2, 1]),
-    Some(&[0, 3]),
-    Some(&[3, 0]),
-    Some(&[1, 1]),
-];
+const CLAIMS: &[u8] = b"none||1|2|12|21|03|30|11";
 
-const CUTS: [&[u8]; 14] = [
-    &[],
-    &[9],
-    &[9, 0, 9],
-    &[0, 9],
-    &[3, 9],
-    &[0, 9, 3, 9],
-    &[3, 9, 0, 9],
-    &[0, 9, 0, 9],
-    &[0, 9, 0, 1, 9],
-    &[0, 9, 1, 9, 3, 9],
-    &[0, 9, 2, 9, 3, 9],
-    &[0, 9, 4, 9],
-    &[0, 9, 3, 1, 9],
-    &[2, 9, 3, 9],
-];
+const CUTS: &[u8] = b"|9|909|09|39|0939|3909|0909|09019|091939|092939|0949|09319|2939";
+
+// The numbers of the reasons against certificates of the task with each claim and each list of cuts.
+fn numbers_of_task(alloc: Global, task: &Task) -> Result<Vec<u8>, Fail> {
+    let mut all = Vec::new(alloc);
+    for claim in CLAIMS.split(|byte| *byte == b'|') {
+        for cuts in CUTS.split(|byte| *byte == b'|') {
+            all.extend_from_slice(agree_on(alloc, task, claim, cuts)?.as_slice())?;
+        }
+    }
+    Ok(all)
+}
 
 // The numbers of the reasons against many certificates of the small tasks.
 fn all_numbers(alloc: Global) -> Result<Vec<u8>, Fail> {
     let mut all = Vec::new(alloc);
     for row in SMALL_TASKS.split(|byte| *byte == b'\n') {
         let task = task_of_row(alloc, row)?;
-        for claim in CLAIMS {
-            for cuts in CUTS {
-                for number in agree_on(alloc, &task, claim, cuts)? {
-                    all.push(number)?;
-                }
-            }
-        }
+        all.extend_from_slice(numbers_of_task(alloc, &task)?.as_slice())?;
     }
     Ok(all)
 }

@@ -2,13 +2,16 @@
 // programs, at every prefix.
 ghost use Rattle.std.specs.Prelude.{◌<◌, ◌≡◌, length};
 
-use crate::small_tasks::{Edit, task_from};
+use crate::small_tasks::edited;
+use hold_limits::Task;
 use hold_partial::{Partial, advances};
 use hold_reach::reference::{broken_limit, broken_rule};
 use hold_reach::reference_reach::{
     bound_of, falls_at, is_position_open, is_prefix_viable, lateral_reach_of, reach_of,
     wide_bound_of, wide_reach_of,
 };
+use problem_text::read_task;
+use std::alloc::Global;
 use std::test::Fail;
 
 /// Four container positions, numbered 0 to 3, of which 0 and 1 are an excluding pair, and the bulk position 4. Two twins, and
@@ -33,78 +36,18 @@ ideal 50.00000 50.10000
 END
 ";
 
-const ITEMS: &str = "item AKE10002XX 800\nitem PMC10001XX 800\nitem AKE10003XX 800\n";
-
-const ANY_INDEX: Edit = ("-1.00000 3.00000", "-100.00000 100.00000");
-
-const TASK_2: Edit = ("TASK 1", "TASK 2");
-
-/// A task's name and its edits.
-type Case = (&'static str, &'static [Edit]);
-
-const SMALL_TASKS: &[Case] = &[
-    ("two twins, and one of their mass but of another kind", &[]),
-    (
-        "two twins after a heavier container",
-        &[("item PMC10001XX 800", "item AKE10001XX 1000")],
-    ),
-    (
-        "three twins",
-        &[(
-            ITEMS,
-            "item AKE10002XX 500\nitem AKE10001XX 500\nitem AKE10003XX 500\n",
-        )],
-    ),
-    (
-        "a combined limit met exactly",
-        &[("combined 1900", "combined 1600"), ANY_INDEX],
-    ),
-    (
-        "a combined limit broken by a kilogram",
-        &[("combined 1900", "combined 1599"), ANY_INDEX],
-    ),
-    (
-        "a cumulative limit met exactly by a loose load",
-        &[("loose 51 100", "loose 51 150")],
-    ),
-    (
-        "loose loads over a limit",
-        &[("loose 51 100", "loose 51 951")],
-    ),
-    (
-        "sides",
-        &[
-            TASK_2,
-            (
-                "item AKE10002XX",
-                "side 11 right\nside 12 left\nside 41 left\nside 42 right\nlateral 500\nitem AKE10002XX",
-            ),
-            ANY_INDEX,
-        ],
-    ),
-    (
-        "a lateral limit met exactly by a loose load on the right",
-        &[
-            TASK_2,
-            (
-                "item AKE10002XX",
-                "side 11 left\nside 41 right\nside 42 left\nside 51 right\nlateral 700\nitem AKE10002XX",
-            ),
-            ANY_INDEX,
-        ],
-    ),
-    (
-        "the same limit broken by a kilogram",
-        &[
-            TASK_2,
-            (
-                "item AKE10002XX",
-                "side 11 left\nside 41 right\nside 42 left\nside 51 right\nlateral 699\nitem AKE10002XX",
-            ),
-            ANY_INDEX,
-        ],
-    ),
-];
+/// Small tasks, a row for each: its name, and then pairs of a text of the task and of what stands in its place. A `~` stands
+/// for the end of a line.
+const SMALL_TASKS: &[u8] = b"two twins, and one of their mass but of another kind
+two twins after a heavier container|item PMC10001XX 800|item AKE10001XX 1000
+three twins|item AKE10002XX 800~item PMC10001XX 800~item AKE10003XX 800~|item AKE10002XX 500~item AKE10001XX 500~item AKE10003XX 500~
+a combined limit met exactly|combined 1900|combined 1600|-1.00000 3.00000|-100.00000 100.00000
+a combined limit broken by a kilogram|combined 1900|combined 1599|-1.00000 3.00000|-100.00000 100.00000
+a cumulative limit met exactly by a loose load|loose 51 100|loose 51 150
+loose loads over a limit|loose 51 100|loose 51 951
+sides|TASK 1|TASK 2|item AKE10002XX|side 11 right~side 12 left~side 41 left~side 42 right~lateral 500~item AKE10002XX|-1.00000 3.00000|-100.00000 100.00000
+a lateral limit met exactly by a loose load on the right|TASK 1|TASK 2|item AKE10002XX|side 11 left~side 41 right~side 42 left~side 51 right~lateral 700~item AKE10002XX|-1.00000 3.00000|-100.00000 100.00000
+the same limit broken by a kilogram|TASK 1|TASK 2|item AKE10002XX|side 11 left~side 41 right~side 42 left~side 51 right~lateral 699~item AKE10002XX|-1.00000 3.00000|-100.00000 100.00000";
 
 fn reaches_agree(partial: &Partial<'_>) -> bool {
     let task = partial.task();
@@ -182,33 +125,67 @@ fn agrees(partial: &Partial<'_>) -> bool {
         && falls_agree(partial)
 }
 
-#[test]
-fn a_partial_placement_agrees_with_the_plain_programs(rt: HostRuntime) -> Result<(), Fail> {
-    for (name, edits) in SMALL_TASKS {
-        let task = task_from(rt.alloc(), TWINS, edits)?;
-        match Partial::new(&task) {
-            Err(rule) => assert_eq!(rt; broken_limit(&task, &[]), Some(rule), "at {name}"),
-            Ok(mut partial) => {
-                assert!(rt; agrees(&partial), "at {name}");
-                for paths in 0..216u32 {
-                    let numbers = [(paths / 36) as u8, (paths / 6 % 6) as u8, (paths % 6) as u8];
-                    for number in numbers {
-                        if partial.prefix().len() < partial.task().items().len() {
-                            assert!(rt; next_agrees(&mut partial, number), "at {name}");
-                            let want = broken_rule(partial.task(), partial.prefix(), number);
-                            assert_eq!(rt; partial.try_place(number).err(), want, "at {name}");
-                            assert!(rt; agrees(&partial), "at {name}");
-                        }
-                    }
-                    for _ in 0..3 {
-                        if !partial.prefix().is_empty() {
-                            partial.undo();
-                            assert!(rt; agrees(&partial), "at {name}");
-                        }
-                    }
-                }
+// Whether a step to a position, or its refusal, is as the plain programs say.
+fn step_agrees(partial: &mut Partial<'_>, number: u8) -> bool {
+    if partial.prefix().len() >= partial.task().items().len() {
+        return true;
+    }
+    if !next_agrees(partial, number) {
+        return false;
+    }
+    let want = broken_rule(partial.task(), partial.prefix(), number);
+    partial.try_place(number).err() == want && agrees(partial)
+}
+
+// Whether each step of three back is as the plain programs say.
+fn steps_back_agree(partial: &mut Partial<'_>) -> bool {
+    for _ in 0..3 {
+        if !partial.prefix().is_empty() {
+            partial.undo();
+            if !agrees(partial) {
+                return false;
             }
         }
     }
+    true
+}
+
+// The first of all paths of three numbers on which something else is said.
+fn first_wrong_path(partial: &mut Partial<'_>) -> Option<u32> {
+    for path in 0..216u32 {
+        let [first, second, third] = [path / 36, path / 6 % 6, path % 6];
+        if !step_agrees(partial, first as u8)
+            || !step_agrees(partial, second as u8)
+            || !step_agrees(partial, third as u8)
+            || !steps_back_agree(partial)
+        {
+            return Some(path);
+        }
+    }
+    None
+}
+
+// Whether a task's partial placement, or why there is none, is as the plain programs say.
+fn task_agrees(task: &Task) -> bool {
+    match Partial::new(task) {
+        Err(rule) => broken_limit(task, &[]) == Some(rule),
+        Ok(mut partial) => agrees(&partial) && first_wrong_path(&mut partial).is_none(),
+    }
+}
+
+// The first small task of which something else is said.
+fn first_wrong_task(alloc: Global) -> Result<Option<usize>, Fail> {
+    for (at, row) in SMALL_TASKS.split(|byte| *byte == b'\n').enumerate() {
+        let task = read_task(alloc, edited(alloc, TWINS, row)?.as_bytes())?;
+        if !task_agrees(&task) {
+            return Ok(Some(at));
+        }
+    }
+    Ok(None)
+}
+
+#[test]
+fn a_partial_placement_agrees_with_the_plain_programs(rt: HostRuntime) -> Result<(), Fail> {
+    assert_eq!(rt; first_wrong_task(rt.alloc())?, None);
     Ok(())
 }

@@ -28,7 +28,7 @@ pub fn task_with(alloc: Global, edits: &[Edit]) -> Result<Task, Fail> {
 }
 
 /// The task of the text with these edits.
-pub fn task_from(alloc: Global, text: &str, edits: &[Edit]) -> Result<Task, Fail> {
+fn task_from(alloc: Global, text: &str, edits: &[Edit]) -> Result<Task, Fail> {
     let mut text = String::from_str(alloc, text)?;
     for (old, new) in edits {
         text = text.replace(alloc, *old, new)?;
@@ -37,21 +37,44 @@ pub fn task_from(alloc: Global, text: &str, edits: &[Edit]) -> Result<Task, Fail
 }
 
 /// The field at this place of a row; none behind the last.
-fn field(alloc: Global, row: &[u8], place: usize) -> Result<Option<String>, Fail> {
+pub fn field(alloc: Global, row: &[u8], place: usize) -> Result<Option<String>, Fail> {
     let Some(bytes) = row.split(|byte| *byte == b'|').nth(place) else {
         return Ok(None);
     };
-    let text = str::from_utf8(bytes).map_err(|_| Fail::new("a field is a text"))?;
-    Ok(Some(String::from_str(alloc, text)?.replace(alloc, "~", "\n")?))
+    Ok(Some(String::from_str(alloc, text_of(bytes)?)?.replace(alloc, "~", "\n")?))
 }
 
-/// The worked task with the edits of a row: at most three, behind its first field.
-pub fn task_of_row(alloc: Global, row: &[u8]) -> Result<Task, Fail> {
-    let mut text = String::from_str(alloc, WORKED)?;
+/// The field at this place of a row, which has it.
+pub fn field_at(alloc: Global, row: &[u8], place: usize) -> Result<String, Fail> {
+    Ok(field(alloc, row, place)?.ok_or("a row has its fields")?)
+}
+
+/// The text with the edits of a row: at most three, behind its first field.
+pub fn edited(alloc: Global, text: &str, row: &[u8]) -> Result<String, Fail> {
+    let mut text = String::from_str(alloc, text)?;
     for place in [1, 3, 5] {
         if let (Some(old), Some(new)) = (field(alloc, row, place)?, field(alloc, row, place + 1)?) {
             text = text.replace(alloc, old.as_str(), new.as_str())?;
         }
     }
-    Ok(read_task(alloc, text.as_bytes())?)
+    Ok(text)
+}
+
+/// The worked task with the edits of a row: at most three, behind its first field.
+pub fn task_of_row(alloc: Global, row: &[u8]) -> Result<Task, Fail> {
+    Ok(read_task(alloc, edited(alloc, WORKED, row)?.as_bytes())?)
+}
+
+/// The numbers that digits spell, one each.
+pub fn numbers_of(alloc: Global, digits: &[u8]) -> Result<Vec<u8>, Fail> {
+    let mut numbers = Vec::new(alloc);
+    for digit in digits {
+        numbers.push(*digit & 15)?;
+    }
+    Ok(numbers)
+}
+
+/// The text that these bytes are.
+pub fn text_of(bytes: &[u8]) -> Result<&str, Fail> {
+    str::from_utf8(bytes).map_err(|_| Fail::new("the bytes are a text"))
 }

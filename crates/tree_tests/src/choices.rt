@@ -213,82 +213,129 @@ fn some_choice(task: &Task, seed: u64) -> Choices {
     choice
 }
 
+// The numbers of the positions of each container.
+fn text_of(alloc: Global, choice: &Choices) -> Result<String, Fail> {
+    let lists = lists_of(alloc, choice)?;
+    Ok(format!(in alloc; "{:?}", lists.as_slice())?)
+}
+
 #[test]
 fn the_full_choice_is_cut_and_fixed(rt: HostRuntime) -> Result<(), Fail> {
     let task = read_task(rt.alloc(), TASK)?;
     let full = Choices::full(&task);
-    let first = full.kept(0, names_of(0b101)).dropped(1, names_of(0b101));
-    let second = full.fixed(&[2, 0, 9]).copy();
-    for (choice, rank, numbers) in [
-        (&full, 0, [0, 1, 2, 3, 4].as_slice()),
-        (&full, 1, [0, 1, 2].as_slice()),
-        (&first, 0, [0, 2].as_slice()),
-        (&first, 1, [1].as_slice()),
-        (&second, 0, [2].as_slice()),
-        (&second, 1, [0].as_slice()),
-        (&second, 2, [].as_slice()),
-        (&second, 3, [0, 1, 2].as_slice()),
-    ] {
-        let set = choice.sets().get(rank).ok_or("a container")?;
-        assert_eq!(rt; list_of(rt.alloc(), *set)?.as_slice(), numbers, "at {rank}");
-    }
-    assert!(rt; second.has_empty() && !first.has_empty() && !first.same(&full));
+    assert_eq!(rt;
+        text_of(rt.alloc(), &full)?.as_str(),
+        "[[0, 1, 2, 3, 4], [0, 1, 2], [0, 1, 2, 3, 4], [0, 1, 2], [0, 1, 2, 3, 4]]"
+    );
+    let cut = full.kept(0, names_of(0b101)).dropped(1, names_of(0b101));
+    assert_eq!(rt;
+        text_of(rt.alloc(), &cut)?.as_str(),
+        "[[0, 2], [1], [0, 1, 2, 3, 4], [0, 1, 2], [0, 1, 2, 3, 4]]"
+    );
+    let fixed = full.fixed(&[2, 0, 9]).copy();
+    assert_eq!(rt;
+        text_of(rt.alloc(), &fixed)?.as_str(),
+        "[[2], [0], [], [0, 1, 2], [0, 1, 2, 3, 4]]"
+    );
+    Ok(())
+}
+
+#[test]
+fn choices_are_empty_or_the_same(rt: HostRuntime) -> Result<(), Fail> {
+    let task = read_task(rt.alloc(), TASK)?;
+    let full = Choices::full(&task);
+    let cut = full.kept(0, names_of(0b101));
+    assert!(rt; !cut.has_empty() && !cut.same(&full));
+    assert!(rt; full.fixed(&[2, 0, 9]).copy().has_empty());
     assert!(rt; full.kept(5, names_of(0)).same(&full));
     Ok(())
 }
 
-#[test]
-fn a_pass_takes_what_the_others_do_not_leave(rt: HostRuntime) -> Result<(), Fail> {
-    let alloc = rt.alloc();
-    let task = read_task(alloc, TASK)?;
-    let conflicts = Conflicts::of(&task);
+// Whether a pass over a choice is the one number by number, and whether it takes something.
+fn pass_of(alloc: Global, task: &Task, seed: u64) -> Result<(bool, bool), Fail> {
+    let conflicts = Conflicts::of(task);
+    let choice = some_choice(task, seed);
+    let lists = lists_of(alloc, &choice)?;
+    let left = lists_of(alloc, &narrowed_once(task, &conflicts, &choice))?;
+    let by_trial = narrowed_by_trial(alloc, task, lists.as_slice())?;
+    Ok((left == by_trial, left != lists))
+}
+
+// The first choice over which a pass is another one, and how many passes take something.
+fn passes(alloc: Global, task: &Task) -> Result<(Option<u64>, u64), Fail> {
     let mut taken: u64 = 0;
     for seed in 0..300 {
-        let choice = some_choice(&task, seed);
-        let lists = lists_of(alloc, &choice)?;
-        let left = lists_of(alloc, &narrowed_once(&task, &conflicts, &choice))?;
-        assert!(rt;
-            left == narrowed_by_trial(alloc, &task, lists.as_slice())?,
-            "seed {seed}"
-        );
-        taken = taken.saturating_add(u64::from(left != lists));
+        let (is_right, takes) = pass_of(alloc, task, seed)?;
+        if !is_right {
+            return Ok((Some(seed), taken));
+        }
+        taken = taken.saturating_add(u64::from(takes));
     }
+    Ok((None, taken))
+}
+
+#[test]
+fn a_pass_takes_what_the_others_do_not_leave(rt: HostRuntime) -> Result<(), Fail> {
+    let task = read_task(rt.alloc(), TASK)?;
+    let (wrong, taken) = passes(rt.alloc(), &task)?;
+    assert_eq!(rt; wrong, None);
     assert!(rt; taken > 100 && taken < 300, "{taken} passes");
     Ok(())
 }
 
-#[test]
-fn narrowing_goes_on_to_its_end(rt: HostRuntime) -> Result<(), Fail> {
-    let alloc = rt.alloc();
-    let task = read_task(alloc, TASK)?;
-    let conflicts = Conflicts::of(&task);
+// Whether narrowing a choice ends as number by number, and whether it takes more than one pass.
+fn end_of(alloc: Global, task: &Task, seed: u64) -> Result<(bool, bool), Fail> {
+    let conflicts = Conflicts::of(task);
+    let choice = some_choice(task, seed);
+    let end = narrowed_to_the_end(alloc, task, lists_of(alloc, &choice)?)?;
+    let once = narrowed_once(task, &conflicts, &choice);
+    let last = narrowed(task, &conflicts, choice);
+    Ok((lists_of(alloc, &last)? == end, !last.same(&once)))
+}
+
+// The first choice whose narrowing ends otherwise, and how many take more than one pass.
+fn ends(alloc: Global, task: &Task) -> Result<(Option<u64>, u64), Fail> {
     let mut longer: u64 = 0;
     for seed in 0..300 {
-        let choice = some_choice(&task, seed);
-        let end = narrowed_to_the_end(alloc, &task, lists_of(alloc, &choice)?)?;
-        let once = narrowed_once(&task, &conflicts, &choice);
-        let last = narrowed(&task, &conflicts, choice);
-        assert!(rt; lists_of(alloc, &last)? == end, "seed {seed}");
-        longer = longer.saturating_add(u64::from(!last.same(&once)));
+        let (is_right, is_longer) = end_of(alloc, task, seed)?;
+        if !is_right {
+            return Ok((Some(seed), longer));
+        }
+        longer = longer.saturating_add(u64::from(is_longer));
     }
+    Ok((None, longer))
+}
+
+#[test]
+fn narrowing_goes_on_to_its_end(rt: HostRuntime) -> Result<(), Fail> {
+    let task = read_task(rt.alloc(), TASK)?;
+    let (wrong, longer) = ends(rt.alloc(), &task)?;
+    assert_eq!(rt; wrong, None);
     assert!(rt; longer > 10, "{longer} of more than one pass");
     Ok(())
 }
 
+// How many of four spans the remainders of a choice miss, where that is as by trial.
+fn missed_of(alloc: Global, task: &Task, seed: u64) -> Result<u64, Fail> {
+    let choice = some_choice(task, seed).kept(1, names_of(seed));
+    let lists = lists_of(alloc, &choice)?;
+    let mut missed: u64 = 0;
+    for high in [-40, -37, -3, 20] {
+        let is_missed = is_missed(task, -40, high, &choice);
+        if is_missed != is_missed_by_trial(task, -40, high, lists.as_slice())? {
+            return Err("a trial finds otherwise".into());
+        }
+        missed = missed.saturating_add(u64::from(is_missed));
+    }
+    Ok(missed)
+}
+
 #[test]
 fn remainders_are_missed_as_by_trial(rt: HostRuntime) -> Result<(), Fail> {
-    let alloc = rt.alloc();
-    let task = read_task(alloc, TASK)?;
+    let task = read_task(rt.alloc(), TASK)?;
     let mut missed: u64 = 0;
     for seed in 0..100 {
-        let choice = some_choice(&task, seed).kept(1, names_of(seed));
-        let lists = lists_of(alloc, &choice)?;
-        for high in [-40, -37, -3, 20] {
-            let got = is_missed(&task, -40, high, &choice);
-            let wanted = is_missed_by_trial(&task, -40, high, lists.as_slice())?;
-            assert!(rt; got == wanted, "seed {seed}, to {high}");
-            missed = missed.saturating_add(u64::from(got));
-        }
+        missed = missed.saturating_add(missed_of(rt.alloc(), &task, seed)?);
     }
     assert!(rt; missed > 20 && missed < 380, "{missed} missed");
     Ok(())

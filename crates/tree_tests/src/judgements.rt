@@ -1,4 +1,5 @@
 // Certificates of trees, judged.
+use crate::tables::{field_at, number_at};
 use problem_text::read_task;
 use std::alloc::Global;
 use std::test::Fail;
@@ -79,6 +80,51 @@ ideal 47.00000 48.00000
 END
 ";
 
+/// Lines of the certificate, a row for each: what a check says, the line's number, and what stands in its place. A `~` stands
+/// for the end of a line.
+const LINES: &[u8] = b"Ok(())|21|END
+Ok(())|9|split 0 12
+Ok(())|16|leaf 0
+Ok(())|18|residue
+Ok(())|18|narrow 1
+Ok(())|18|split 1 12 41~residue~residue
+Err(WrongOperation(0, 2))|2|best 11 12
+Err(WrongOperation(0, 2))|8|leaf 0
+Err(WrongOperation(0, 2))|8|leaf 2
+Err(WrongOperation(0, 2))|8|residue
+Err(WrongOperation(0, 4))|10|leaf 0
+Err(WrongOperation(0, 4))|10|narrow 2
+Err(WrongOperation(0, 10))|16|
+Err(WrongOperation(0, 11))|16|residue~residue
+Err(WrongOperation(1, 0))|17|least 0 12
+Err(WrongOperation(1, 0))|17|least 3 11
+Err(WrongOperation(1, 0))|18|
+Err(WrongOperation(1, 1))|19|
+Err(WrongOperation(2, 0))|19|least 1 12
+Err(WrongOperation(2, 1))|20|residue~residue
+Err(NotAPlacement)|2|best 12 12
+Err(NotAPlacement)|2|best 12
+Err(WrongSibling(1))|2|best 41 12
+Err(WrongPrices(0))|3|low ; 0 1 ;
+Err(WrongPrices(1))|4|high 11 10000000000001 ; ;
+Err(WrongSibling(0))|17|least 1 11
+Err(WrongSibling(2))|21|least 1 12~END";
+
+/// Cliques and prices, a row for each: what a check says, and their lines.
+const CLIQUES: &[u8] = b"Ok(())|clique 11 12P~clique 12 12P~low ; 0 0 ; 1 10000000000000
+Err(NotAClique(1))|clique 11 12P~clique 11 12 12P~low ; 1 7 ;
+Err(WrongPrices(1))|clique 11 12P~low ; ;~low ; 1 7 ;
+Err(WrongPrices(0))|clique 11 12P~low ; ; 1 7
+Ok(())|low ; ;~high ; ;";
+
+/// Whole certificates of a task that is empty or crossed, a row for each: the task, what a check says, and the lines.
+const WHOLE: &[u8] = b"EMPTY|Ok(())|best~low ; ;~nearer~leaf 0
+EMPTY|Ok(())|best~nearer~residue
+EMPTY|Err(WrongOperation(0, 0))|none~any
+CROSSED|Ok(())|none~any
+CROSSED|Err(WrongOperation(0, 0))|none~any~residue
+CROSSED|Err(WrongSibling(0))|none~any~least 0 11";
+
 // What the check of a certificate for a task comes to.
 fn judged(alloc: Global, task: &[u8], text: &[u8]) -> Result<Result<(), TreeRejection>, Fail> {
     let task = read_task(alloc, task)?;
@@ -109,151 +155,101 @@ fn judged_with(
     judged(alloc, TASK, &text)
 }
 
-#[test]
-fn a_certificate_that_holds_is_good(rt: HostRuntime) -> Result<(), Fail> {
-    let table: [(usize, &[u8]); 6] = [
-        (21, b"END"),
-        (9, b"split 0 12"),
-        (16, b"leaf 0"),
-        (18, b"residue"),
-        (18, b"narrow 1"),
-        (18, b"split 1 12 41\nresidue\nresidue"),
-    ];
-    for (number, line) in table {
-        let got = judged_with(rt.alloc(), number, line)?;
-        assert!(rt; got == Ok(()), "line {number}, {got:?}");
+// What a check says of the certificate with the line of a row.
+fn said_with(alloc: Global, row: &[u8]) -> Result<String, Fail> {
+    let line = field_at(alloc, row, 2)?;
+    let verdict = judged_with(alloc, number_at(alloc, row, 1)?, line.as_bytes())?;
+    Ok(format!(in alloc; "{verdict:?}")?)
+}
+
+// The first row of which a check says something else.
+fn first_wrong_line(alloc: Global) -> Result<Option<usize>, Fail> {
+    for (at, row) in LINES.split(|byte| *byte == b'\n').enumerate() {
+        if said_with(alloc, row)? != field_at(alloc, row, 0)? {
+            return Ok(Some(at));
+        }
     }
-    Ok(())
+    Ok(None)
 }
 
 #[test]
-fn the_first_wrong_operation_is_named(rt: HostRuntime) -> Result<(), Fail> {
-    let table: [(usize, &[u8], usize, usize); 14] = [
-        (2, b"best 11 12", 0, 2),
-        (8, b"leaf 0", 0, 2),
-        (8, b"leaf 2", 0, 2),
-        (8, b"residue", 0, 2),
-        (10, b"leaf 0", 0, 4),
-        (10, b"narrow 2", 0, 4),
-        (16, b"", 0, 10),
-        (16, b"residue\nresidue", 0, 11),
-        (17, b"least 0 12", 1, 0),
-        (17, b"least 3 11", 1, 0),
-        (18, b"", 1, 0),
-        (19, b"", 1, 1),
-        (19, b"least 1 12", 2, 0),
-        (20, b"residue\nresidue", 2, 1),
-    ];
-    for (number, line, tree, at) in table {
-        let got = judged_with(rt.alloc(), number, line)?;
-        assert!(rt;
-            got == Err(TreeRejection::WrongOperation(tree, at)),
-            "line {number}, {got:?}"
-        );
-    }
+fn the_first_wrong_part_is_named(rt: HostRuntime) -> Result<(), Fail> {
+    assert_eq!(rt; first_wrong_line(rt.alloc())?, None);
     Ok(())
 }
 
-#[test]
-fn other_wrong_parts_are_named(rt: HostRuntime) -> Result<(), Fail> {
-    let table: [(usize, &[u8], TreeRejection); 7] = [
-        (2, b"best 12 12", TreeRejection::NotAPlacement),
-        (2, b"best 12", TreeRejection::NotAPlacement),
-        (2, b"best 41 12", TreeRejection::WrongSibling(1)),
-        (3, b"low ; 0 1 ;", TreeRejection::WrongPrices(0)),
-        (
-            4,
-            b"high 11 10000000000001 ; ;",
-            TreeRejection::WrongPrices(1),
-        ),
-        (17, b"least 1 11", TreeRejection::WrongSibling(0)),
-        (21, b"least 1 12\nEND", TreeRejection::WrongSibling(2)),
-    ];
-    for (number, line, rejection) in table {
-        let got = judged_with(rt.alloc(), number, line)?;
-        assert!(rt; got == Err(rejection), "line {number}, {got:?}");
+// What a check says of the certificate with the lines of a row, where a container excludes positions.
+fn said_of_lines(alloc: Global, row: &[u8]) -> Result<String, Fail> {
+    let lines = field_at(alloc, row, 1)?;
+    let text = format!(in alloc;
+        "CERTIFICATE 3\nbest 12P 41 42\n{lines}\nnearer\nnarrow 0\nEND\n"
+    )?;
+    Ok(format!(in alloc; "{:?}", judged(alloc, EXCLUDING, text.as_bytes())?)?)
+}
+
+// The first row of cliques and prices of which a check says something else.
+fn first_wrong_lines(alloc: Global) -> Result<Option<usize>, Fail> {
+    for (at, row) in CLIQUES.split(|byte| *byte == b'\n').enumerate() {
+        if said_of_lines(alloc, row)? != field_at(alloc, row, 0)? {
+            return Ok(Some(at));
+        }
     }
-    Ok(())
+    Ok(None)
 }
 
 #[test]
 fn cliques_and_prices_are_tested_in_this_order(rt: HostRuntime) -> Result<(), Fail> {
-    let table: [(&[u8], Result<(), TreeRejection>); 5] = [
-        (
-            b"clique 11 12P\nclique 12 12P\nlow ; 0 0 ; 1 10000000000000",
-            Ok(()),
-        ),
-        (
-            b"clique 11 12P\nclique 11 12 12P\nlow ; 1 7 ;",
-            Err(TreeRejection::NotAClique(1)),
-        ),
-        (
-            b"clique 11 12P\nlow ; ;\nlow ; 1 7 ;",
-            Err(TreeRejection::WrongPrices(1)),
-        ),
-        (
-            b"clique 11 12P\nlow ; ; 1 7",
-            Err(TreeRejection::WrongPrices(0)),
-        ),
-        (b"low ; ;\nhigh ; ;", Ok(())),
-    ];
-    for (lines, wanted) in table {
-        let mut text = Vec::new(rt.alloc());
-        text.extend_from_slice(b"CERTIFICATE 3\nbest 12P 41 42\n")?;
-        text.extend_from_slice(lines)?;
-        text.extend_from_slice(b"\nnearer\nnarrow 0\nEND\n")?;
-        let got = judged(rt.alloc(), EXCLUDING, &text)?;
-        assert!(rt; got == wanted, "{got:?}");
-    }
+    assert_eq!(rt; first_wrong_lines(rt.alloc())?, None);
     Ok(())
+}
+
+// What a check says of the certificate that consists of the lines of a row.
+fn said_of_whole(alloc: Global, row: &[u8]) -> Result<String, Fail> {
+    let task = if row.starts_with(b"E") {
+        EMPTY
+    } else {
+        CROSSED
+    };
+    let lines = field_at(alloc, row, 2)?;
+    let text = format!(in alloc; "CERTIFICATE 3\n{lines}\nEND\n")?;
+    Ok(format!(in alloc; "{:?}", judged(alloc, task, text.as_bytes())?)?)
+}
+
+// The first row of whole certificates of which a check says something else.
+fn first_wrong_whole(alloc: Global) -> Result<Option<usize>, Fail> {
+    for (at, row) in WHOLE.split(|byte| *byte == b'\n').enumerate() {
+        if said_of_whole(alloc, row)? != field_at(alloc, row, 1)? {
+            return Ok(Some(at));
+        }
+    }
+    Ok(None)
 }
 
 #[test]
 fn tasks_without_containers_or_ticks(rt: HostRuntime) -> Result<(), Fail> {
-    let table: [(&[u8], &[u8], Result<(), TreeRejection>); 6] = [
-        (
-            EMPTY,
-            b"CERTIFICATE 3\nbest\nlow ; ;\nnearer\nleaf 0\nEND\n",
-            Ok(()),
-        ),
-        (
-            EMPTY,
-            b"CERTIFICATE 3\nbest\nnearer\nresidue\nEND\n",
-            Ok(()),
-        ),
-        (
-            EMPTY,
-            b"CERTIFICATE 3\nnone\nany\nEND\n",
-            Err(TreeRejection::WrongOperation(0, 0)),
-        ),
-        (CROSSED, b"CERTIFICATE 3\nnone\nany\nEND\n", Ok(())),
-        (
-            CROSSED,
-            b"CERTIFICATE 3\nnone\nany\nresidue\nEND\n",
-            Err(TreeRejection::WrongOperation(0, 0)),
-        ),
-        (
-            CROSSED,
-            b"CERTIFICATE 3\nnone\nany\nleast 0 11\nEND\n",
-            Err(TreeRejection::WrongSibling(0)),
-        ),
-    ];
-    for (task, text, wanted) in table {
-        let got = judged(rt.alloc(), task, text)?;
-        assert!(rt; got == wanted, "{got:?}");
-    }
+    assert_eq!(rt; first_wrong_whole(rt.alloc())?, None);
     Ok(())
+}
+
+// The path of the good certificate, which is kept.
+fn proven_path(alloc: Global) -> Result<Vec<u8>, Fail> {
+    let task = read_task(alloc, TASK)?;
+    let certificate = read_trees(alloc, &task, CERTIFICATE)?;
+    let proven = ProvenByTrees::new(alloc, task, certificate)?;
+    Ok(proven.path().as_slice().to_vec(alloc)?)
+}
+
+// The number of containers of a task without a path, which is kept.
+fn items_without_plan(alloc: Global) -> Result<usize, Fail> {
+    let task = read_task(alloc, CROSSED)?;
+    let certificate = read_trees(alloc, &task, b"CERTIFICATE 3\nnone\nany\nEND\n")?;
+    let no_plan = NoPlanByTrees::new(alloc, task, certificate)?;
+    Ok(no_plan.task().items().len())
 }
 
 #[test]
 fn a_good_certificate_is_kept_with_its_claim(rt: HostRuntime) -> Result<(), Fail> {
-    let task = read_task(rt.alloc(), TASK)?;
-    let certificate = read_trees(rt.alloc(), &task, CERTIFICATE)?;
-    let proven = ProvenByTrees::new(rt.alloc(), task, certificate)?;
-    assert_eq!(rt; proven.path().as_slice(), [1, 2].as_slice());
-    let task = read_task(rt.alloc(), CROSSED)?;
-    let certificate = read_trees(rt.alloc(), &task, b"CERTIFICATE 3\nnone\nany\nEND\n")?;
-    let no_plan = NoPlanByTrees::new(rt.alloc(), task, certificate)?;
-    assert_eq!(rt; no_plan.task().items().len(), 1);
+    assert_eq!(rt; proven_path(rt.alloc())?.as_slice(), [1, 2].as_slice());
+    assert_eq!(rt; items_without_plan(rt.alloc())?, 1);
     Ok(())
 }

@@ -19,4 +19,8 @@ mod search_tables_tests;
 #[cfg(test)]
 mod small_load;
 #[cfg(test)]
+mod tables;
+#[cfg(test)]
 mod texts;
+#[cfg(test)]
+mod tree_search_tests;
