@@ -61,7 +61,7 @@ undecided-replies n text is t looks to = subst (IsTreePlacing t looks Undecided)
 
 -- Judgements ------------------------------------------------------------------------------------
 
--- a refusal for want of memory has no line
+-- a refusal because memory ran out has no line
 not_memory : (reason : TreeRejection) (line : List ℕ) → IsTreeRejectionLine reason line → reason ≡ wrong.NoMemory → ⊥
 not_memory reason line is none = rw none at is
 
@@ -70,7 +70,7 @@ refused_for_memory : {X : Type 0} (result : Result X TreeRejection) (reason : Tr
 refused_for_memory result reason is outcome =
     ⊎_elim (λ ok. absurd (false≢true (rw is at ok))) (λ same. let e = sym is ∙ same in cc) outcome
 
--- a good certificate is refused for want of memory alone, so that one that is refused with a line is not good
+-- a good certificate is refused only where memory ran out, so that one that is refused with a line is not good
 pub rejected-judgement : {X : Type 0} (result : Result X TreeRejection) (t : Problem) (c : ListedTrees) (reason : TreeRejection) (line : List ℕ) → result ≡ Err reason
     → (IsGoodTrees t c → IsOk result ⊎ (result ≡ Err wrong.NoMemory)) → IsRejected t c reason → IsTreeRejectionLine reason line
     → IsTreeJudgement t c Rejected line
