@@ -47,7 +47,11 @@ fn searched(
     let Some(found) = find_nearest(alloc, finder, full, looks)? else {
         return Ok(None);
     };
-    let Nearest { path, tree: root } = found;
+    let Nearest {
+        path,
+        tree: root,
+        opening,
+    } = found;
     let Some(path) = path else {
         return Ok(Some(Outcome {
             path: None,
@@ -57,7 +61,7 @@ fn searched(
     };
     let load = finder.ground.load;
     finder.ticks = load.ticks_within(distance_of(load, &path));
-    match least(alloc, finder, full, path)? {
+    match least(alloc, finder, full, path, opening)? {
         Some((path, siblings)) => Ok(Some(Outcome {
             path: Some(path),
             root,

@@ -88,14 +88,19 @@ impl Dive {
     }
 }
 
-/// The least path among the ticks, from one of them, with a tree for each smaller neighbour. None where the looks are spent.
+/// The least path among the ticks, from one of them and from prices, if there are some for these ticks, with a tree for each
+/// smaller neighbour. None where the looks are spent.
 pub fn least(
     alloc: Global,
     finder: &mut Finder<'_>,
     full: &Choices,
     path: Path,
+    opening: Option<Pair>,
 ) -> Result<Option<(Path, Vec<Sibling>)>, NoMemory> {
-    let from = finder.opening_prices(full)?;
+    let from = match opening {
+        Some(opening) => opening,
+        None => finder.opening_prices(full)?,
+    };
     let count = path.len();
     let mut dive = Dive {
         front: Path::new(),

@@ -2,6 +2,7 @@
 
 use desk_base::NoMemory;
 use hold_choices::Choices;
+use raised_prices::Pair;
 use search_tables::{Load, Path, TickSpan, index_of};
 use std::alloc::Global;
 use tree_certificate::Operation;
@@ -12,6 +13,8 @@ use tree_finder::{Finder, Verdict};
 pub struct Nearest {
     pub path: Option<Path>,
     pub tree: Vec<Operation>,
+    /// The prices with which the search among the ticks at the path's own distance began, where there was one.
+    pub opening: Option<Pair>,
 }
 
 /// How far the index of a path lies from the ideal, in ticks.
@@ -44,9 +47,9 @@ fn search(finder: &mut Finder<'_>, full: &Choices, ticks: TickSpan) -> Result<Ve
     finder.refute(full.copy(), &from, None)
 }
 
-/// The nearest path: one after another that is nearer, in at most so many searches, until none is. None where the looks
-/// are spent before that.
-pub fn find_nearest(
+/// The nearest path, where none is at the ideal: one after another that is nearer, in at most so many searches, until none
+/// is. None where the looks are spent before that.
+fn narrow_down(
     alloc: Global,
     finder: &mut Finder<'_>,
     full: &Choices,
@@ -57,11 +60,20 @@ pub fn find_nearest(
     let mut ticks = load.window;
     for _ in 0..=searches {
         if ticks.is_empty() {
-            let tree = Vec::new(alloc);
-            return Ok(Some(Nearest { path, tree }));
+            return Ok(Some(Nearest {
+                path,
+                tree: Vec::new(alloc),
+                opening: None,
+            }));
         }
         match search(finder, full, ticks)? {
-            Verdict::Refuted(tree) => return Ok(Some(Nearest { path, tree })),
+            Verdict::Refuted(tree) => {
+                return Ok(Some(Nearest {
+                    path,
+                    tree,
+                    opening: None,
+                }));
+            }
             Verdict::Found(found) => {
                 let best = closer(finder, full, found)?;
                 ticks = load.ticks_nearer(distance_of(load, &best));
@@ -71,4 +83,29 @@ pub fn find_nearest(
         }
     }
     Ok(None)
+}
+
+/// The nearest path: one at the ideal, or else the nearest by so many searches. None where the looks are spent before that.
+pub fn find_nearest(
+    alloc: Global,
+    finder: &mut Finder<'_>,
+    full: &Choices,
+    searches: u32,
+) -> Result<Option<Nearest>, NoMemory> {
+    let load = finder.ground.load;
+    let ideal = load.ticks_within(0);
+    if ideal.is_empty() {
+        return narrow_down(alloc, finder, full, searches);
+    }
+    finder.ticks = ideal;
+    let opening = finder.opening_prices(full)?;
+    match finder.refute(full.copy(), &opening, None)? {
+        Verdict::Refuted(_) => narrow_down(alloc, finder, full, searches),
+        Verdict::Found(path) => Ok(Some(Nearest {
+            path: Some(path),
+            tree: Vec::new(alloc),
+            opening: Some(opening),
+        })),
+        Verdict::Spent => Ok(None),
+    }
 }
