@@ -1,4 +1,5 @@
 pub mod Calls
+pub mod Door
 pub mod Sink
 pub mod Source
 pub mod MemorySink

@@ -1,5 +1,5 @@
 //! The outside of the program behind traits: a [`Sink`] takes bytes, a [`Source`] provides them, a [`Link`] does
-//! both, as a connection does, and a [`Shelf`] provides files by name.
+//! both, as a connection does, a [`Door`] brings links, and a [`Shelf`] provides files by name.
 //!
 //! To contracts, an object of such a trait exposes how many of its calls have failed and, unless it keeps
 //! them hidden, its contents. A call returns a failure only if that number rose, and code over these traits
@@ -11,13 +11,19 @@
 #![tactic(auto)]
 
 mod calls;
+mod doors;
 mod links;
 mod shelves;
 mod sinks;
 mod sources;
 
+pub use doors::Door;
+pub use doors::memory::MemoryDoor;
+pub use doors::port::TcpDoor;
+pub use doors::sure::SureDoor;
 pub use links::joined::Joined;
 pub use links::memory::MemoryLink;
+pub use links::stream::TcpLink;
 pub use links::sure::SureLink;
 pub use links::{Link, send_all};
 pub use shelves::memory::MemoryShelf;

@@ -8,6 +8,7 @@ use crate::Failed;
 
 pub mod joined;
 pub mod memory;
+pub mod stream;
 pub mod sure;
 
 /// An input and an output in one, as a connection has them. Each has a count of faults of its own.
