@@ -103,11 +103,11 @@ module _ {M Q R E G : Type 0} where
       subst (λ (y : ℕ × Card E). IsIdle p.capacity y.1) g.2 (subst (λ (q : Origin M). IsIdle q.capacity (card_of g.0.seat.me.0)) (mine i g.0 g.1) (rests g.0))
 
   -- what the last look tells, said of the desks that came back
-  pub closes : (setting_of : M → G) (history_of : M → List E) (desk_of : E → ℕ) (p : Origin M) (room : TableId) (count found : ℕ) (desks : List (Desk M Q R E G)) (collected : List (ℕ × Card E)) (m : M)
+  pub closes : (setting_of : M → G) (follows : M → M → Type 0) (history_of : M → List E) (desk_of : E → ℕ) (p : Origin M) (room : TableId) (count found : ℕ) (desks : List (Desk M Q R E G)) (collected : List (ℕ × Card E)) (m : M)
       → collected ≡ map card_at desks → AreAllDesks p room count desks
-      → Ends setting_of history_of desk_of p count found collected m
+      → Ends setting_of follows history_of desk_of p count found collected m
       → Closes history_of desk_of p count desks (history_of m)
-  closes setting_of history_of desk_of p room count found desks collected m is back ends =
+  closes setting_of follows history_of desk_of p room count found desks collected m is back ends =
       let carried = λ (i : ℕ) (d : Desk M Q R E G) (here : slice_get desks i ≡ Some d). subst (λ j. At j i (card_at d)) (sym is) (at_get card_at desks i d here) in
       let seen_by = λ (i : ℕ) (d : Desk M Q R E G) (here : slice_get desks i ≡ Some d). ends.seen i (card_at d) (carried i d here) in
       record {

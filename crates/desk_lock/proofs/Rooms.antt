@@ -37,15 +37,15 @@ no_rest : {E : Type 0} (desk_of : E → ℕ) (n : ℕ) → n ≡ 0 → (rest : L
 no_rest desk_of n z [] h = refl
 no_rest desk_of n z (e ∷ es) h = let g = h 0 e (omega arith) in absurd (omega arith)
 
-module _ {M E G : Type 0} (setting_of : M → G) (history_of : M → List E) (spare_of : M → ℕ) (desk_of : E → ℕ) (origin : Origin M) where
+module _ {M E G : Type 0} (setting_of : M → G) (follows : M → M → Type 0) (history_of : M → List E) (spare_of : M → ℕ) (desk_of : E → ℕ) (origin : Origin M) where
   abbrev St : Type 0
   St = State (Option M) (View E (Origin M))
 
   abbrev Rule : St → Type 0
-  Rule s = IsKept setting_of history_of spare_of desk_of origin s
+  Rule s = IsKept setting_of follows history_of spare_of desk_of origin s
 
   abbrev Home : List (Card E) → ℕ → List E → Slot M → Stage → Type 0
-  Home = IsHoused setting_of history_of spare_of desk_of origin
+  Home = IsHoused setting_of follows history_of spare_of desk_of origin
 
   -- the table at the start
   only : (v u : View E (Origin M)) (by : ℕ) → get_elem? (v ∷ []) by ≡ some u → (by ≡ 0) × (v ≡ u)
@@ -148,7 +148,7 @@ module _ {M E G : Type 0} (setting_of : M → G) (history_of : M → List E) (sp
       )
 
   -- the room gives the machine into the slot, before a desk is made
-  opens : (slots id : ℕ) (m : M) → IsHeld setting_of history_of spare_of desk_of origin 0 (history_of origin.machine) m
+  opens : (slots id : ℕ) (m : M) → IsHeld setting_of follows history_of spare_of desk_of origin 0 (history_of origin.machine) m
       → Allows Rule slots id (InRoom origin 0 Out [], (0, Some m) ∷ []) 0 (λ x. x) (Opens (step slots 0 0 0 none) (InRoom origin 0 Out [], (0, Some m) ∷ []))
   opens slots id m held s kept len at bound =
       let f = room_at s kept id 0 Out [] at in
@@ -172,7 +172,7 @@ module _ {M E G : Type 0} (setting_of : M → G) (history_of : M → List E) (sp
           runs = kept.runs;
           housed = (
             (λ k c e is. absurd (no_card k c e)),
-            λ _. (m, first_back s.homes (Some m) out, record { same = held.same; history = held.history ∙ sym start; spare = let h = held.spare in omega arith }),
+            λ _. (m, first_back s.homes (Some m) out, record { same = held.same; later = held.later; history = held.history ∙ sym start; spare = let h = held.spare in omega arith }),
           );
         },
         refl,
@@ -282,7 +282,7 @@ module _ {M E G : Type 0} (setting_of : M → G) (history_of : M → List E) (sp
 
   -- the room is closed
   shuts : (slots id n : ℕ) (collected : List (ℕ × Card E)) → Covers n collected → AreIdle origin.capacity collected
-      → Allows Rule slots id (InRoom origin n Working collected, []) 0 (λ x. x) (Shuts setting_of history_of desk_of (step slots 0 0 0 none) (InRoom origin n Working collected, []))
+      → Allows Rule slots id (InRoom origin n Working collected, []) 0 (λ x. x) (Shuts setting_of follows history_of desk_of (step slots 0 0 0 none) (InRoom origin n Working collected, []))
   shuts slots id n collected covers idle s kept len at bound =
       let f = room_at s kept id n Working collected at in
       let found = slice_index s.words 0 in
@@ -320,6 +320,7 @@ module _ {M E G : Type 0} (setting_of : M → G) (history_of : M → List E) (sp
           refl,
           record {
             same = home.2.same;
+            later = home.2.later;
             rest = r.rest;
             history = home.2.history ∙ r.beyond;
             long = r.long ∙ (served ∙ ap (λ x. min x origin.capacity) (sym is));
@@ -338,7 +339,7 @@ module _ {M E G : Type 0} (setting_of : M → G) (history_of : M → List E) (sp
   pub clears_at : (slots id n : ℕ) (collected : List (ℕ × Card E)) (me : Sits) → me ≡ (InRoom origin n Vacant collected, []) → Allows Rule slots id me 0 (λ x. x) (Clears (step slots 0 0 0 none) me)
   clears_at slots id n collected me e = subst (λ (z : Sits). Allows Rule slots id z 0 (λ x. x) (Clears (step slots 0 0 0 none) z)) (sym e) (clears slots id n collected)
 
-  pub opens_at : (slots id : ℕ) (m : M) (me : Sits) → me ≡ (InRoom origin 0 Out [], (0, Some m) ∷ []) → IsHeld setting_of history_of spare_of desk_of origin 0 (history_of origin.machine) m → Allows Rule slots id me 0 (λ x. x) (Opens (step slots 0 0 0 none) me)
+  pub opens_at : (slots id : ℕ) (m : M) (me : Sits) → me ≡ (InRoom origin 0 Out [], (0, Some m) ∷ []) → IsHeld setting_of follows history_of spare_of desk_of origin 0 (history_of origin.machine) m → Allows Rule slots id me 0 (λ x. x) (Opens (step slots 0 0 0 none) me)
   opens_at slots id m me e held = subst (λ (z : Sits). Allows Rule slots id z 0 (λ x. x) (Opens (step slots 0 0 0 none) z)) (sym e) (opens slots id m held)
 
   pub splits_at : (id n : ℕ) (collected : List (ℕ × Card E)) (v : View E (Origin M)) → v ≡ InRoom origin n Working collected → n < 8 → Splits Rule id v (with_one_more v) (next_desk (λ p. history_of p.machine) v)
@@ -347,8 +348,8 @@ module _ {M E G : Type 0} (setting_of : M → G) (history_of : M → List E) (sp
   pub joins_at : (id other n k : ℕ) (collected : List (ℕ × Card E)) (c : Card E) (v w : View E (Origin M)) → v ≡ InRoom origin n Working collected → w ≡ AtDesk origin k c → Joins Rule id v other w (with_card_of v w) Spent
   joins_at id other n k collected c v w e f = subst (λ (z : View E (Origin M) × View E (Origin M)). Joins Rule id z.0 other z.1 (with_card_of z.0 z.1) Spent) (λ i. (sym e i, sym f i)) (joins id other n k collected c)
 
-  pub shuts_at : (slots id n : ℕ) (collected : List (ℕ × Card E)) (me : Sits) → me ≡ (InRoom origin n Working collected, []) → Covers n collected → AreIdle origin.capacity collected → Allows Rule slots id me 0 (λ x. x) (Shuts setting_of history_of desk_of (step slots 0 0 0 none) me)
-  shuts_at slots id n collected me e covers idle = subst (λ (z : Sits). Allows Rule slots id z 0 (λ x. x) (Shuts setting_of history_of desk_of (step slots 0 0 0 none) z)) (sym e) (shuts slots id n collected covers idle)
+  pub shuts_at : (slots id n : ℕ) (collected : List (ℕ × Card E)) (me : Sits) → me ≡ (InRoom origin n Working collected, []) → Covers n collected → AreIdle origin.capacity collected → Allows Rule slots id me 0 (λ x. x) (Shuts setting_of follows history_of desk_of (step slots 0 0 0 none) me)
+  shuts_at slots id n collected me e covers idle = subst (λ (z : Sits). Allows Rule slots id z 0 (λ x. x) (Shuts setting_of follows history_of desk_of (step slots 0 0 0 none) z)) (sym e) (shuts slots id n collected covers idle)
 
 -- what the steps tell, where the view and the slots before are known by an equation
 module _ {M E : Type 0} (origin : Origin M) where
@@ -369,9 +370,9 @@ module _ {M E : Type 0} (origin : Origin M) where
       → w ≡ (InRoom origin n Working ((k, c) ∷ collected), [])
   joined_both n k collected c me other w e f h = h ∙ ap₂ (λ (y z : Seated M E). (with_card_of y.0 z.0, y.1)) e f
 
-module _ {M E G : Type 0} (setting_of : M → G) (history_of : M → List E) (desk_of : E → ℕ) (origin : Origin M) where
-  pub shut_tells : (found n : ℕ) (collected : List (ℕ × Card E)) (me w : Me (Option M) (View E (Origin M))) → me ≡ (InRoom origin n Working collected, []) → Shuts setting_of history_of desk_of (step 1 0 0 0 none) me found w
-      → (m : M) × (w.1 ≡ (0, Some m) ∷ []) × Ends setting_of history_of desk_of origin n found collected m
+module _ {M E G : Type 0} (setting_of : M → G) (follows : M → M → Type 0) (history_of : M → List E) (desk_of : E → ℕ) (origin : Origin M) where
+  pub shut_tells : (found n : ℕ) (collected : List (ℕ × Card E)) (me w : Me (Option M) (View E (Origin M))) → me ≡ (InRoom origin n Working collected, []) → Shuts setting_of follows history_of desk_of (step 1 0 0 0 none) me found w
+      → (m : M) × (w.1 ≡ (0, Some m) ∷ []) × Ends setting_of follows history_of desk_of origin n found collected m
   shut_tells found n collected me w e h =
-      let f = subst (λ (z : Me (Option M) (View E (Origin M))). Shuts setting_of history_of desk_of (step 1 0 0 0 none) z found w) e h in
+      let f = subst (λ (z : Me (Option M) (View E (Origin M))). Shuts setting_of follows history_of desk_of (step 1 0 0 0 none) z found w) e h in
       (f.0, ap (λ (z : Me (Option M) (View E (Origin M))). z.1) f.1, f.2)

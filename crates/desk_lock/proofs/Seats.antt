@@ -60,15 +60,15 @@ module _ {M E : Type 0} (origin : Origin M) (cards : List (Card E)) (seat_of : �
       (λ t. refit by t.0 mine.1 mine.2 v (seats by v t.1))
       (at_set views id by (AtDesk p k d) v here)
 
-module _ {M E G : Type 0} (setting_of : M → G) (history_of : M → List E) (spare_of : M → ℕ) (desk_of : E → ℕ) (origin : Origin M) where
+module _ {M E G : Type 0} (setting_of : M → G) (follows : M → M → Type 0) (history_of : M → List E) (spare_of : M → ℕ) (desk_of : E → ℕ) (origin : Origin M) where
   abbrev St : Type 0
   St = State (Option M) (View E (Origin M))
 
   abbrev Rule : St → Type 0
-  Rule s = IsKept setting_of history_of spare_of desk_of origin s
+  Rule s = IsKept setting_of follows history_of spare_of desk_of origin s
 
   abbrev Home : List (Card E) → ℕ → List E → Slot M → Stage → Type 0
-  Home = IsHoused setting_of history_of spare_of desk_of origin
+  Home = IsHoused setting_of follows history_of spare_of desk_of origin
 
   -- where a desk steps, the room works
   pub works : (s : St) (kept : Rule s) (id k : ℕ) (c : Card E) → At s.views id (AtDesk origin k c) → kept.stage ≡ Working
@@ -158,7 +158,7 @@ module _ {M E G : Type 0} (setting_of : M → G) (history_of : M → List E) (sp
   pub look_hit : (s : St) (kept : Rule s) (id k : ℕ) (c : Card E) (carried : List (ℕ × Option M)) → At s.views id (AtDesk origin k c) → c.ticket ≡ Some kept.serving → kept.serving < origin.capacity → c.has_turn ≡ false
       → (m : M) × (s.homes ≡ some (Some m) ∷ [])
       × Rule record { words = set s.words 1 (slice_index s.words 1); homes = set s.homes 0 none; views = set s.views id (AtDesk origin k (card (Some kept.serving) true kept.log)) }
-      × GetsTurn setting_of history_of spare_of desk_of origin k kept.serving c carried (AtDesk origin k (card (Some kept.serving) true kept.log), (0, Some m) ∷ carried)
+      × GetsTurn setting_of follows history_of spare_of desk_of origin k kept.serving c carried (AtDesk origin k (card (Some kept.serving) true kept.log), (0, Some m) ∷ carried)
   look_hit s kept id k c carried at mine under free =
       let here = own s kept id k c at in
       let d : Card E = card (Some kept.serving) true kept.log in
@@ -203,7 +203,7 @@ module _ {M E G : Type 0} (setting_of : M → G) (history_of : M → List E) (sp
   at_home homes m e = rw e refl
 
   pub looks : (slots id k t : ℕ) (c : Card E) (carried : List (ℕ × Option M)) → c.ticket ≡ Some t → t < origin.capacity → c.has_turn ≡ false
-      → Allows Rule slots id (AtDesk origin k c, carried) 1 (λ n. n) (Looks setting_of history_of spare_of desk_of (step slots 1 0 0 none) (AtDesk origin k c, carried))
+      → Allows Rule slots id (AtDesk origin k c, carried) 1 (λ n. n) (Looks setting_of follows history_of spare_of desk_of (step slots 1 0 0 none) (AtDesk origin k c, carried))
   looks slots id k t c carried tick under free s kept len at bound =
       let n = slice_index s.words 1 in
       let is : slice_index s.words 1 ≡ kept.serving = rw kept.words refl in
@@ -216,16 +216,16 @@ module _ {M E G : Type 0} (setting_of : M → G) (history_of : M → List E) (sp
               takes 0 (Some h.0),
               at_home s.homes h.0 h.1,
               h.2,
-              rw hit (subst (λ x. GetsTurn setting_of history_of spare_of desk_of origin k x c carried (AtDesk origin k (card (Some kept.serving) true kept.log), (0, Some h.0) ∷ carried)) (sym is) h.3),
+              rw hit (subst (λ x. GetsTurn setting_of follows history_of spare_of desk_of origin k x c carried (AtDesk origin k (card (Some kept.serving) true kept.log), (0, Some h.0) ∷ carried)) (sym is) h.3),
             )
         | inr miss ↦ (AtDesk origin k c, keeps, tt, look_miss s kept id (AtDesk origin k c) 1 at (omega arith), rw miss refl)
       ]
 
   -- a desk advances
   pub advances : (slots id k t : ℕ) (c : Card E) (m : M) (e : E) (carried : List (ℕ × Option M)) → c.ticket ≡ Some t → c.has_turn ≡ true
-      → history_of m ≡ c.seen ++ e ∷ [] → desk_of e ≡ k + 1 → setting_of m ≡ setting_of origin.machine → origin.capacity ≤ (t + 1) + spare_of m
+      → history_of m ≡ c.seen ++ e ∷ [] → desk_of e ≡ k + 1 → setting_of m ≡ setting_of origin.machine → follows origin.machine m → origin.capacity ≤ (t + 1) + spare_of m
       → Allows Rule slots id (AtDesk origin k c, (0, Some m) ∷ carried) 1 (λ n. (n + 1) % 2 ^ 64) (Advances history_of (step slots 1 1 0 none) (AtDesk origin k c, (0, Some m) ∷ carried))
-  advances slots id k t c m e carried tick has_turn log by same spare s kept len at bound =
+  advances slots id k t c m e carried tick has_turn log by same later spare s kept len at bound =
       let n = slice_index s.words 1 in
       let here = own s kept id k c at in
       let turn = (kept.runs.valid k c here).turn has_turn in
@@ -242,7 +242,7 @@ module _ {M E G : Type 0} (setting_of : M → G) (history_of : M → List E) (sp
             (advance_runs desk_of origin.capacity (history_of origin.machine) kept.cards kept.tickets kept.serving kept.log k c e kept.runs here has_turn by)) (
               changed kept.cards k d (λ j b. b.has_turn ≡ true → set s.homes 0 (some (Some m)) ≡ none ∷ []) (λ is. absurd (false≢true is))
                   (λ j b ne atj is. absurd (ne (kept.runs.alone j k b c kept.serving atj here ((kept.runs.valid j b atj).turn is).0 turn.0))),
-              λ _. (m, (rw out refl), record { same = same; history = refl; spare = subst (λ x. origin.capacity ≤ (x + 1) + spare_of m) now spare }),
+              λ _. (m, (rw out refl), record { same = same; later = later; history = refl; spare = subst (λ x. origin.capacity ≤ (x + 1) + spare_of m) now spare }),
             ),
         λ m' is. let f : m ≡ m' = cc in ap (λ (x : M). (AtDesk origin k (card None false (history_of x)), carried)) f,
       )
@@ -256,31 +256,31 @@ module _ {M E G : Type 0} (setting_of : M → G) (history_of : M → List E) (sp
   draws_at slots id k c carried me e free = subst (λ (z : Sits). Allows Rule slots id z 0 (λ n. (n + 1) % 2 ^ 64) (Draws (step slots 0 1 0 none) z)) (sym e) (draws slots id k c carried free)
 
   pub looks_at : (slots id k t : ℕ) (c : Card E) (carried : List (ℕ × Option M)) (me : Sits) → me ≡ (AtDesk origin k c, carried) → c.ticket ≡ Some t → t < origin.capacity → c.has_turn ≡ false
-      → Allows Rule slots id me 1 (λ n. n) (Looks setting_of history_of spare_of desk_of (step slots 1 0 0 none) me)
+      → Allows Rule slots id me 1 (λ n. n) (Looks setting_of follows history_of spare_of desk_of (step slots 1 0 0 none) me)
   looks_at slots id k t c carried me e tick under free =
-      subst (λ (z : Sits). Allows Rule slots id z 1 (λ n. n) (Looks setting_of history_of spare_of desk_of (step slots 1 0 0 none) z)) (sym e) (looks slots id k t c carried tick under free)
+      subst (λ (z : Sits). Allows Rule slots id z 1 (λ n. n) (Looks setting_of follows history_of spare_of desk_of (step slots 1 0 0 none) z)) (sym e) (looks slots id k t c carried tick under free)
 
-  looked_here : (k t found : ℕ) (c : Card E) (carried : List (ℕ × Option M)) (w : Sits) → c.ticket ≡ Some t → MatchBool (found == unwrap_or c.ticket 0) (GetsTurn setting_of history_of spare_of desk_of origin k found c carried w) (w ≡ (AtDesk origin k c, carried))
-      → MatchBool (found == t) (GetsTurn setting_of history_of spare_of desk_of origin k t c carried w) (w ≡ (AtDesk origin k c, carried))
+  looked_here : (k t found : ℕ) (c : Card E) (carried : List (ℕ × Option M)) (w : Sits) → c.ticket ≡ Some t → MatchBool (found == unwrap_or c.ticket 0) (GetsTurn setting_of follows history_of spare_of desk_of origin k found c carried w) (w ≡ (AtDesk origin k c, carried))
+      → MatchBool (found == t) (GetsTurn setting_of follows history_of spare_of desk_of origin k t c carried w) (w ≡ (AtDesk origin k c, carried))
   looked_here k t found c carried w tick h =
-      let f = subst (λ (o : Option ℕ). MatchBool (found == unwrap_or o 0) (GetsTurn setting_of history_of spare_of desk_of origin k found c carried w) (w ≡ (AtDesk origin k c, carried))) tick h in
+      let f = subst (λ (o : Option ℕ). MatchBool (found == unwrap_or o 0) (GetsTurn setting_of follows history_of spare_of desk_of origin k found c carried w) (w ≡ (AtDesk origin k c, carried))) tick h in
       elim (cases_Bool (found == t)) [
-        | inl y ↦ let g = rw y at f in let same : found ≡ t = grind (arith, nat_tests) in rw y (subst (λ x. GetsTurn setting_of history_of spare_of desk_of origin k x c carried w) same g)
+        | inl y ↦ let g = rw y at f in let same : found ≡ t = grind (arith, nat_tests) in rw y (subst (λ x. GetsTurn setting_of follows history_of spare_of desk_of origin k x c carried w) same g)
         | inr n ↦ let g = rw n at f in rw n g
       ]
 
   pub looked : (slots k t found : ℕ) (c : Card E) (carried : List (ℕ × Option M)) (me w : Sits) → me ≡ (AtDesk origin k c, carried) → c.ticket ≡ Some t
-      → Looks setting_of history_of spare_of desk_of (step slots 1 0 0 none) me found w
-      → MatchBool (found == t) (GetsTurn setting_of history_of spare_of desk_of origin k t (card_of me.0) carried w) (w ≡ me)
+      → Looks setting_of follows history_of spare_of desk_of (step slots 1 0 0 none) me found w
+      → MatchBool (found == t) (GetsTurn setting_of follows history_of spare_of desk_of origin k t (card_of me.0) carried w) (w ≡ me)
   looked slots k t found c carried me w e tick = subst
-      (λ (z : Sits). Looks setting_of history_of spare_of desk_of (step slots 1 0 0 none) z found w → MatchBool (found == t) (GetsTurn setting_of history_of spare_of desk_of origin k t (card_of z.0) carried w) (w ≡ z))
+      (λ (z : Sits). Looks setting_of follows history_of spare_of desk_of (step slots 1 0 0 none) z found w → MatchBool (found == t) (GetsTurn setting_of follows history_of spare_of desk_of origin k t (card_of z.0) carried w) (w ≡ z))
       (sym e) (looked_here k t found c carried w tick)
 
   pub advances_at : (slots id k t : ℕ) (c : Card E) (m : M) (e : E) (carried : List (ℕ × Option M)) (me : Sits) → me ≡ (AtDesk origin k c, (0, Some m) ∷ carried) → c.ticket ≡ Some t → c.has_turn ≡ true
-      → history_of m ≡ c.seen ++ e ∷ [] → desk_of e ≡ k + 1 → setting_of m ≡ setting_of origin.machine → origin.capacity ≤ (t + 1) + spare_of m
+      → history_of m ≡ c.seen ++ e ∷ [] → desk_of e ≡ k + 1 → setting_of m ≡ setting_of origin.machine → follows origin.machine m → origin.capacity ≤ (t + 1) + spare_of m
       → Allows Rule slots id me 1 (λ n. (n + 1) % 2 ^ 64) (Advances history_of (step slots 1 1 0 none) me)
-  advances_at slots id k t c m e carried me is tick has_turn log by same spare =
-      subst (λ (z : Sits). Allows Rule slots id z 1 (λ n. (n + 1) % 2 ^ 64) (Advances history_of (step slots 1 1 0 none) z)) (sym is) (advances slots id k t c m e carried tick has_turn log by same spare)
+  advances_at slots id k t c m e carried me is tick has_turn log by same later spare =
+      subst (λ (z : Sits). Allows Rule slots id z 1 (λ n. (n + 1) % 2 ^ 64) (Advances history_of (step slots 1 1 0 none) z)) (sym is) (advances slots id k t c m e carried tick has_turn log by same later spare)
 
 module _ {M E : Type 0} (origin : Origin M) where
   pub drew : (slots k n : ℕ) (c : Card E) (carried : List (ℕ × Option M)) (me w : Me (Option M) (View E (Origin M))) → me ≡ (AtDesk origin k c, carried) → Draws (step slots 0 1 0 none) me n w

@@ -72,10 +72,12 @@ module _ {M E : Type 0} where
 abbrev pub Slot : Type 0 → Type 0
 Slot M = List (math.Option (Option M))
 
-module _ {M E G : Type 0} (setting_of : M → G) (history_of : M → List E) (spare_of : M → ℕ) (desk_of : E → ℕ) where
+module _ {M E G : Type 0} (setting_of : M → G) (follows : M → M → Type 0) (history_of : M → List E)
+    (spare_of : M → ℕ) (desk_of : E → ℕ) where
   -- a machine that may stand in the slot when `serving` turns were taken
   pub record IsHeld (origin : Origin M) (serving : ℕ) (log : List E) (m : M) : Type 0 where
     pub same : setting_of m ≡ setting_of origin.machine
+    pub later : follows origin.machine m
     pub history : history_of m ≡ log
     pub spare : origin.capacity ≤ serving + spare_of m
 

@@ -34,14 +34,15 @@ module _ {M E : Type 0} where
   abbrev pub Draws : Step (Option M) → Seated M E → ℕ → Seated M E → Type 0
   Draws st me found w = let c = card_of me.0 in w ≡ (with_card (card (Some found) c.has_turn c.seen) me.0, me.1)
 
-module _ {M E G : Type 0} (setting_of : M → G) (history_of : M → List E) (spare_of : M → ℕ) (desk_of : E → ℕ) where
+module _ {M E G : Type 0} (setting_of : M → G) (follows : M → M → Type 0) (history_of : M → List E)
+    (spare_of : M → ℕ) (desk_of : E → ℕ) where
   -- the desk at the place k has its turn, by the ticket t: it has seen all entries so far, and has the slot with the
   -- machine in it
   pub record HasTurn (p : Origin M) (k t : ℕ) (carried : List (ℕ × Option M)) (w : Seated M E) : Type 0 where
     pub log : List E
     pub machine : M
     pub place : length log ≡ length (history_of p.machine) + t
-    pub held : IsHeld setting_of history_of spare_of desk_of p t log machine
+    pub held : IsHeld setting_of follows history_of spare_of desk_of p t log machine
     pub after : w ≡ (AtDesk p k (card (Some t) true log), (0, Some machine) ∷ carried)
 
   -- it has its turn, and what it had not seen yet is other desks'
@@ -68,6 +69,7 @@ module _ {M E G : Type 0} (setting_of : M → G) (history_of : M → List E) (sp
     pub grown : history_of machine ≡ log ++ entry ∷ []
     pub by : desk_of entry ≡ k + 1
     pub same : setting_of machine ≡ setting_of p.machine
+    pub later : follows p.machine machine
     pub spare : p.capacity ≤ (t + 1) + spare_of machine
 
 module _ {M E : Type 0} (history_of : M → List E) where
@@ -110,10 +112,12 @@ AreIdle {E} capacity collected = (i : ℕ) (x : ℕ × Card E) → At collected 
 abbrev pub Covers : {E : Type 0} → ℕ → List (ℕ × Card E) → Type 0
 Covers {E} n collected = (k : ℕ) → k < n → (i : ℕ) × (c : Card E) × At collected i (k, c)
 
-module _ {M E G : Type 0} (setting_of : M → G) (history_of : M → List E) (desk_of : E → ℕ) where
+module _ {M E G : Type 0} (setting_of : M → G) (follows : M → M → Type 0) (history_of : M → List E)
+    (desk_of : E → ℕ) where
   -- what the room has of the machine and of its n desks when it is closed, with `found` tickets drawn
   pub record Ends (p : Origin M) (n found : ℕ) (collected : List (ℕ × Card E)) (machine : M) : Type 0 where
     pub same : setting_of machine ≡ setting_of p.machine
+    pub later : follows p.machine machine
     pub rest : List E
     pub history : history_of machine ≡ history_of p.machine ++ rest
     pub long : length rest ≡ min found p.capacity

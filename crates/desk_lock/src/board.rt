@@ -38,7 +38,7 @@ pub(crate) struct TurnRule<M> {
 }
 
 impl<M: Machine> TableRule<Option<M>, View<M::Entry, Origin<M>>, Origin<M>> for TurnRule<M> {
-    ghost holds = { IsKept M.setting M.history M.spare M.desk_of };
+    ghost holds = { IsKept M.setting M.follows M.history M.spare M.desk_of };
 
     ghost first = { first_view };
 }
@@ -56,7 +56,7 @@ pub(crate) struct Look<M> {
 }
 
 impl<M: Machine> Play<Option<M>, View<M::Entry, Origin<M>>> for Look<M> {
-    ghost then = { Looks M.setting M.history M.spare M.desk_of };
+    ghost then = { Looks M.setting M.follows M.history M.spare M.desk_of };
 }
 
 /// A desk ends its turn, and the next ticket is served.
@@ -88,7 +88,7 @@ pub(crate) struct Shut<M> {
 }
 
 impl<M: Machine> Play<Option<M>, View<M::Entry, Origin<M>>> for Shut<M> {
-    ghost then = { Shuts M.setting M.history M.desk_of };
+    ghost then = { Shuts M.setting M.follows M.history M.desk_of };
 }
 
 /// The room makes the seat of one more desk.

@@ -35,7 +35,7 @@ pub(crate) fn look<M: Machine>(
     requires below { ticket < board.now.shared.key.capacity }
     ensures same { (seat.new.table_id ≡ seat.old.table_id) × (seat.new.id ≡ seat.old.id) }
     ensures turn { MatchBool (result == ticket)
-        (GetsTurn M.setting M.history M.spare M.desk_of
+        (GetsTurn M.setting M.follows M.history M.spare M.desk_of
         board.now.shared.key place ticket (card_of seat.old.me.0) [] seat.new.me)
         (seat.new.me ≡ seat.old.me) }
 {
@@ -55,7 +55,7 @@ pub(crate) fn wait<M: Machine, R: Wait>(
         ≡ desk_seat board.now.shared.key place (card (Some ticket) false (seen_of seat.old.me.0)) [] }
     requires below { ticket < board.now.shared.key.capacity }
     ensures same { (seat.new.table_id ≡ seat.old.table_id) × (seat.new.id ≡ seat.old.id) }
-    ensures turn { GetsTurn M.setting M.history M.spare M.desk_of
+    ensures turn { GetsTurn M.setting M.follows M.history M.spare M.desk_of
         board.now.shared.key place ticket (card_of seat.old.me.0) [] seat.new.me }
 {
     for _ in rt.forever() {
@@ -100,7 +100,7 @@ pub(crate) fn advance<M: Machine>(
     ticket: u64,
 )
     requires board { IsSeatOf board.now.shared.table_id seat.old.table_id }
-    requires done { IsTurnDone M.setting M.history M.spare M.desk_of
+    requires done { IsTurnDone M.setting M.follows M.history M.spare M.desk_of
         board.now.shared.key place ticket seat.old.me }
     ensures same { (seat.new.table_id ≡ seat.old.table_id) × (seat.new.id ≡ seat.old.id) }
     ensures idle { (m : M) → seat.old.me.1 ≡ (0, Some m) ∷ []
@@ -119,7 +119,7 @@ pub(crate) fn serve<M: Machine>(
     request: M::Request,
 ) -> M::Reply
     requires board { IsSeatOf board.now.shared.table_id seat.old.table_id }
-    requires turn { HasTurn M.setting M.history M.spare M.desk_of
+    requires turn { HasTurn M.setting M.follows M.history M.spare M.desk_of
         board.now.shared.key place ticket [] seat.old.me }
     requires below { ticket < board.now.shared.key.capacity }
     requires desks { place < 8 }

@@ -24,6 +24,9 @@ pub trait Machine: Drop {
     /// What no turn changes.
     ghost setting: { Self → Self.Setting };
 
+    /// What stands between two moments of the machine, the earlier one first.
+    ghost follows: { Self → Self → Type 0 };
+
     /// The entries of all turns, in order.
     ghost history: { Self → List Self.Entry };
 
@@ -45,10 +48,15 @@ pub trait Machine: Drop {
         requires spare { 0 < spare self.old }
         requires lawful { lawful request }
         ensures setting { setting self.new ≡ setting self.old }
+        ensures follows { follows self.old self.new }
         ensures used { spare self.new + 1 ≡ spare self.old }
         ensures turn { IsTurn desk_of fits (setting self.old)
             (history self.old) (history self.new) desk request result };
 
     /// There is never room for 2^63 more entries, so that tickets can be counted.
     ghost few: { (m : Self) → spare m < 2 ^ 63 };
+
+    ghost follows_itself: { (m : Self) → follows m m };
+
+    ghost follows_on: { (first next last : Self) → follows first next → follows next last → follows first last };
 }

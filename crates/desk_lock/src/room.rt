@@ -74,6 +74,7 @@ impl<M: Machine> Room<M> {
     pub fn close(self, desks: Vec<Desk<M>>) -> M
         requires { AreAllDesksOf self desks.items }
         ensures setting { M.setting result ≡ M.setting (room_origin self).machine }
+        ensures follows { M.follows (room_origin self).machine result }
         ensures history { Closes M.history M.desk_of
             (room_origin self) (desk_count self) desks.items (M.history result) }
     {

@@ -25,7 +25,7 @@ fn clear<M: Machine>(board: &Board<M>, seat: &mut BoardSeat<M>)
 fn open<M: Machine>(board: &Board<M>, seat: &mut BoardSeat<M>)
     requires board { IsSeatOf board.now.shared.table_id seat.old.table_id }
     requires held { (m : M) × (seat.old.me ≡ room_seat board.now.shared.key 0 out [] ((0, Some m) ∷ []))
-        × IsHeld M.setting M.history M.spare M.desk_of
+        × IsHeld M.setting M.follows M.history M.spare M.desk_of
         board.now.shared.key 0 (M.history board.now.shared.key.machine) m }
     ensures same { (seat.new.table_id ≡ seat.old.table_id) × (seat.new.id ≡ seat.old.id) }
     ensures working { seat.new.me ≡ room_seat board.now.shared.key 0 working [] [] }
@@ -88,7 +88,7 @@ pub(crate) fn shut<M: Machine>(board: &Board<M>, seat: &mut BoardSeat<M>, desks:
     requires idle { AreIdle board.now.shared.key.capacity (collected_in seat.old.me.0) }
     ensures same { seat.new.table_id ≡ seat.old.table_id }
     ensures machine { (m : M) × (seat.new.me.1 ≡ (0, Some m) ∷ [])
-        × Ends M.setting M.history M.desk_of board.now.shared.key desks result (collected_in seat.old.me.0) m }
+        × Ends M.setting M.follows M.history M.desk_of board.now.shared.key desks result (collected_in seat.old.me.0) m }
 {
     board.shared.load::<Shut<M>>(seat, TICKETS)
 }

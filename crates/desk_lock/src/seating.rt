@@ -146,6 +146,7 @@ pub(crate) fn recover<M: Machine>(
     requires working { seat.old.me ≡ room_seat board.now.shared.key count working [] [] }
     requires all { AreAllDesks board.now.shared.key seat.old.table_id count desks.items }
     ensures setting { M.setting result ≡ M.setting board.now.shared.key.machine }
+    ensures follows { M.follows board.now.shared.key.machine result }
     ensures history { Closes M.history M.desk_of board.now.shared.key count desks.items (M.history result) }
 {
     collect_all(board, seat, desks, count);

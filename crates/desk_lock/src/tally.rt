@@ -46,7 +46,7 @@ impl Tally {
 }
 
 impl Machine for Tally {
-    ghost use Rattle.desk_lock.specs.Tallies.{entries, room, IsCounted};
+    ghost use Rattle.desk_lock.specs.Tallies.{entries, room, IsCounted, IsLater, is_later_itself, is_later_on};
 
     type Request = u64;
 
@@ -57,6 +57,8 @@ impl Machine for Tally {
     type Setting = ();
 
     ghost setting = { λ _. tt };
+
+    ghost follows = { IsLater };
 
     ghost history = { entries };
 
@@ -69,6 +71,10 @@ impl Machine for Tally {
     ghost fits = { IsCounted };
 
     ghost few = { λ t. t.few };
+
+    ghost follows_itself = { is_later_itself };
+
+    ghost follows_on = { is_later_on };
 
     fn turn(&mut self, _alloc: Global, desk: u32, request: u64) -> usize {
         self.room -= 1;

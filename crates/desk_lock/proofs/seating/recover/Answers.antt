@@ -18,10 +18,15 @@ returns-clause-setting g c =
     let ends = c.shut.ensures.machine in
     ap g.M.Machine.setting (sym (same_machine _ _ _ ends.1 c.take.ensures.machine)) ∙ ends.2.same
 
+pub returns-clause-follows : goal.returns-clause-follows
+returns-clause-follows g c =
+    let ends = c.shut.ensures.machine in
+    subst (λ m. g.M.Machine.follows c.args.board.now.shared.key.machine m) (same_machine _ _ _ ends.1 c.take.ensures.machine) ends.2.later
+
 pub returns-clause-history : goal.returns-clause-history
 returns-clause-history g c =
     let ends = c.shut.ensures.machine in
     let collected = now_joined _ _ _ _ _ c.collect_all.ensures.working in
     subst (λ m. Closes g.M.Machine.history g.M.Machine.desk_of c.args.board.now.shared.key c.args.count c.args.desks.items (g.M.Machine.history m))
     (same_machine _ _ _ ends.1 c.take.ensures.machine)
-    (closes _ _ _ _ _ _ _ _ _ _ collected c.requires.all ends.2)
+    (closes _ _ _ _ _ _ _ _ _ _ _ collected c.requires.all ends.2)
