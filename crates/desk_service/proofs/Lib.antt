@@ -7,3 +7,4 @@ pub mod Moments
 pub mod KeeperFaults
 pub mod Weights
 pub mod ServiceLaws
+pub mod Shared

@@ -11,23 +11,28 @@ use Rattle.editions.specs.Books.{Books, IsTurn}
 use Rattle.desk_service.specs.Alone.{IsLater, is_failure}
 use Rattle.desk_service.specs.Turns.{setting_of, IsTurnAfter, Calls}
 
+-- the turn is one after the entries before
+pub turn_fits : (old new : Books) (faults faults' desk : ℕ) (request : Request) (reply : Reply) (t : IsTurn old new faults faults' desk request reply)
+    → IsTurnAfter (setting_of old) old.history desk request t.j.entry reply
+turn_fits old new faults faults' desk request reply t = record {
+  history = t.history;
+  judgement = t.judgement;
+  j = t.j;
+  judged = t.judged;
+  of_entry = refl;
+  by_desk = t.by_desk;
+  of_key = t.of_key;
+  of_act = t.of_act;
+  replied = t.replied;
+  passed = t.passed;
+  committed = t.committed;
+}
+
 -- the turn is a call of the desk
 pub turn_calls : (old new : Books) (faults faults' desk : ℕ) (request : Request) (reply : Reply) → IsTurn old new faults faults' desk request reply
     → Calls (setting_of old) desk request reply old.history new.history
 turn_calls old new faults faults' desk request reply t =
-    let turn : IsTurnAfter (setting_of old) old.history desk request t.j.entry reply = record {
-      history = t.history;
-      judgement = t.judgement;
-      j = t.j;
-      judged = t.judged;
-      of_entry = refl;
-      by_desk = t.by_desk;
-      of_key = t.of_key;
-      of_act = t.of_act;
-      replied = t.replied;
-      passed = t.passed;
-      committed = t.committed;
-    } in
+    let turn : IsTurnAfter (setting_of old) old.history desk request t.j.entry reply = turn_fits old new faults faults' desk request reply t in
     record {
       between = [];
       others = All-nil _;
@@ -37,7 +42,7 @@ turn_calls old new faults faults' desk request reply t =
     }
 
 -- a failure was counted
-one_failure : (outcome : Outcome) (faults faults' : ℕ) → (outcome ≡ KeeperFailed → Rose faults faults') → faults ≤ faults' → faults' < 2 ^ 64 - 1
+pub one_failure : (outcome : Outcome) (faults faults' : ℕ) → (outcome ≡ KeeperFailed → Rose faults faults') → faults ≤ faults' → faults' < 2 ^ 64 - 1
     → faults + (0 + cond (is_failure outcome) 1 0) ≤ faults'
 one_failure Done faults faults' cause later below = omega (arith, later)
 one_failure KeeperFailed faults faults' cause later below = let rose = cause refl in omega (arith, rose, below)

@@ -5,3 +5,6 @@ pub mod Service
 pub mod Alone
 pub mod Laws
 pub mod AloneLaws
+pub mod Several
+pub mod SeveralLaws
+pub mod DeskLaws
