@@ -1,0 +1,10 @@
+//! Tests of an office that several desks have together, and of the doors that they serve.
+//! They stand apart, since a crate with tests is proved twice.
+#![tactic(auto)]
+
+#[cfg(test)]
+mod doors;
+#[cfg(test)]
+mod examples;
+#[cfg(test)]
+mod planning;
