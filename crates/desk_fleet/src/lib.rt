@@ -3,8 +3,10 @@
 
 mod fault;
 mod fleet;
+mod laws;
 mod lines;
 
 pub use fault::{FileReason, FleetFault, RefusedFile};
 pub use fleet::fleet_from;
+pub use laws::fleet_laws;
 pub use lines::line_of_refusal;
