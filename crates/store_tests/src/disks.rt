@@ -1,0 +1,188 @@
+// The statements over disks in memory that stop after a number of calls.
+ghost use Rattle.std.specs.Prelude.{IsTrue, IfOk};
+
+use crate::rows::{are, row};
+use crate::tables::{commit, load, prepare};
+use keeper::KeptRow;
+use sqlite::{Connection, FileStore, Files, Options};
+use sqlite_disk::{Crash, Disk, Fuse, Memory};
+use std::alloc::Global;
+use std::test::Fail;
+
+/// Calls that are never used up.
+const NO_STOP: u64 = u64::MAX;
+
+/// More calls than one commit makes.
+const MANY_CALLS: u64 = 100;
+
+/// The small caches keep a round short.
+fn options() -> Options {
+    Options {
+        cache_pages: 16,
+        spill_pages: 16,
+        checkpoint_frames: 1000,
+        seed: 1,
+    }
+}
+
+/// The log and the database file, as bytes that are on the disk.
+#[derive(Drop)]
+struct Images {
+    log: Vec<u8>,
+    db: Vec<u8>,
+}
+
+/// What is left of a run that committed one row.
+#[derive(Drop)]
+struct Ran {
+    is_acknowledged: bool,
+    is_stopped: bool,
+    files: Files<Fuse<Memory>>,
+}
+
+/// A disk that holds these bytes, and stops after so many calls.
+fn disk(alloc: Global, bytes: &[u8], calls: u64) -> Result<Fuse<Memory>, Fail>
+    ensures { IfOk result (λ disk. IsTrue (⟦<Fuse<Memory> as Disk>⟧.is_usable disk)) }
+{
+    let mut memory = Memory::new(alloc);
+    memory.write_at(0, bytes)?;
+    memory.sync()?;
+    Ok(Fuse::new(memory, calls))
+}
+
+fn disks(alloc: Global, held: &Images, log: u64, db: u64) -> Result<Files<Fuse<Memory>>, Fail>
+    ensures { IfOk result (λ files. IsTrue (⟦<Fuse<Memory> as Disk>⟧.is_usable files.log) × IsTrue (⟦<Fuse<Memory> as Disk>⟧.is_usable files.db)) }
+{
+    Ok(Files {
+        log: disk(alloc, &held.log, log)?,
+        db: disk(alloc, &held.db, db)?,
+    })
+}
+
+/// Opens the disks as a keeper opens its file, commits the row, and closes them.
+fn commit_over(alloc: Global, files: Files<Fuse<Memory>>, row: &KeptRow) -> Ran
+    requires { IsTrue (⟦<Fuse<Memory> as Disk>⟧.is_usable files.log) × IsTrue (⟦<Fuse<Memory> as Disk>⟧.is_usable files.db) }
+{
+    match Connection::open_files(alloc, files, options()) {
+        Ok(conn) => commit_and_close(alloc, conn, row),
+        Err((_, left)) => Ran {
+            is_acknowledged: false,
+            is_stopped: true,
+            files: left.into_files(),
+        },
+    }
+}
+
+fn commit_and_close(
+    alloc: Global,
+    mut conn: Connection<FileStore<Fuse<Memory>>>,
+    row: &KeptRow,
+) -> Ran {
+    let is_acknowledged = prepare(alloc, &mut conn).is_ok()
+        && commit(alloc, &mut conn, row).is_ok();
+    if !is_acknowledged {
+        return Ran {
+            is_acknowledged,
+            is_stopped: true,
+            files: conn.into_store().close(),
+        };
+    }
+    match conn.close_files() {
+        Ok(files) => Ran {
+            is_acknowledged,
+            is_stopped: false,
+            files,
+        },
+        Err((_, store)) => Ran {
+            is_acknowledged,
+            is_stopped: true,
+            files: store.close(),
+        },
+    }
+}
+
+/// What a crash of the machine leaves of the disks.
+fn after_crash(files: Files<Fuse<Memory>>) -> Files<Fuse<Memory>>
+    ensures { IsTrue (⟦<Fuse<Memory> as Disk>⟧.is_usable result.log) × IsTrue (⟦<Fuse<Memory> as Disk>⟧.is_usable result.db) }
+{
+    let Files { mut log, mut db } = files;
+    log.crash();
+    db.crash();
+    Files { log, db }
+}
+
+/// The rows that the next open finds.
+fn rows_on(alloc: Global, files: Files<Fuse<Memory>>) -> Result<Vec<KeptRow>, Fail>
+    requires { IsTrue (⟦<Fuse<Memory> as Disk>⟧.is_usable files.log) × IsTrue (⟦<Fuse<Memory> as Disk>⟧.is_usable files.db) }
+{
+    match Connection::open_files(alloc, files, options()) {
+        Ok(mut conn) => Ok(load(alloc, &mut conn)?),
+        Err(_) => Err(Fail::from("the disks are not opened again")),
+    }
+}
+
+/// The disks with the first row, whose commit was acknowledged.
+fn first_images(alloc: Global) -> Result<Images, Fail> {
+    let nothing = Images {
+        log: Vec::new(alloc),
+        db: Vec::new(alloc),
+    };
+    let files = disks(alloc, &nothing, NO_STOP, NO_STOP)?;
+    let ran = commit_over(alloc, files, &row(alloc, b"A", b"first")?);
+    if !ran.is_acknowledged || ran.is_stopped {
+        return Err(Fail::from("the first row is not committed"));
+    }
+    Ok(Images {
+        log: Vec::from_slice(alloc, ran.files.log.inner().bytes())?,
+        db: Vec::from_slice(alloc, ran.files.db.inner().bytes())?,
+    })
+}
+
+/// Commits the second row over disks that stop after so many calls of the log, or of the database file: whether they
+/// stopped. After a crash the first row is there, and the second one if its commit was acknowledged.
+fn is_stopped_after(
+    alloc: Global,
+    first: &Images,
+    second: &KeptRow,
+    log: u64,
+    db: u64,
+) -> Result<bool, Fail> {
+    let ran = commit_over(alloc, disks(alloc, first, log, db)?, second);
+    let (is_acknowledged, is_stopped) = (ran.is_acknowledged, ran.is_stopped);
+    let rows = rows_on(alloc, after_crash(ran.files))?;
+    let has_both = are(&rows, &[(b"A", b"first"), (b"B", b"second")]);
+    let has_first = are(&rows, &[(b"A", b"first")]);
+    if has_both || (has_first && !is_acknowledged) {
+        Ok(is_stopped)
+    } else {
+        Err(Fail::from("an acknowledged row is lost"))
+    }
+}
+
+#[test]
+fn a_log_that_stops_loses_nothing(rt: HostRuntime) -> Result<(), Fail> {
+    let alloc = rt.alloc();
+    let first = first_images(alloc)?;
+    let second = row(alloc, b"B", b"second")?;
+    for calls in 0..MANY_CALLS {
+        if !is_stopped_after(alloc, &first, &second, calls, NO_STOP)? {
+            assert!(rt; 0 < calls, "no round is stopped");
+            return Ok(());
+        }
+    }
+    Err(Fail::from("each round is stopped"))
+}
+
+#[test]
+fn a_database_file_that_stops_loses_nothing(rt: HostRuntime) -> Result<(), Fail> {
+    let alloc = rt.alloc();
+    let first = first_images(alloc)?;
+    let second = row(alloc, b"B", b"second")?;
+    for calls in 0..MANY_CALLS {
+        if !is_stopped_after(alloc, &first, &second, NO_STOP, calls)? {
+            assert!(rt; 0 < calls, "no round is stopped");
+            return Ok(());
+        }
+    }
+    Err(Fail::from("each round is stopped"))
+}
