@@ -1,5 +1,5 @@
 -- The arguments of a desk, and how its run ends.
-use Rattle.std.proofs.Common.{◌≡◌, ◌≢◌, ◌≤◌, ◌-◌, ◌++◌, ℕ, List, [], ◌∷◌, length, take, drop, map, get_or, Option, Result, Ok, Err, refl, sym, ap, ap₂, ◌∙◌, subst, arith}
+use Rattle.std.proofs.Common.{◌≡◌, ◌≢◌, ◌≤◌, ◌-◌, ◌⊎◌, inl, inr, ℕ, List, [], ◌∷◌, length, take, drop, map, get_or, Option, Result, Ok, Err, refl, sym, ap, ◌∙◌, subst, arith}
 use Rattle.std.specs.Prelude.{All, codes, String, string_bytes}
 use Rattle.std.specs.Result.{IfOk, IfErr, OnOk, OnErr}
 use Rattle.std.specs.declared.alloc.Global.{Global}
@@ -11,14 +11,24 @@ use Rattle.keeper.specs.Tables.{Tables}
 use Rattle.flight_state.specs.declared.state.FlightState.{FlightState}
 use Rattle.flight_history.specs.declared.entry.Entry.{Entry}
 use Rattle.desk_http.specs.declared.ending.ConnEnd.{ConnEnd}
-use Rattle.desk_run.specs.Faults.{IsNotOpened}
+use Rattle.desk_http.specs.declared.ending.ConnEnd.TheVariants as end
+use Rattle.desk_fleet.specs.declared.fault.RefusedFile.{RefusedFile}
+use Rattle.desk_run.specs.Faults.{IsNotOpened, ReportsFile}
 use Rattle.desk_run.specs.Runs.{Line, line, IsRunOf}
+use Rattle.desk_run.specs.Servable.{CanServe}
 use Rattle.desk_run.specs.declared.fault.DeskFault.{DeskFault}
-use Rattle.desk_run.specs.declared.fault.DeskFault.TheVariants.{Unread, Keeper}
-use Rattle.loadctl.specs.Arguments.{BeginsWithMinus, arguments_of}
-use Rattle.loadctl.specs.Desk.{most_aircraft, surroundings, fault_text, status_of_end, status_of_fault, AskForDesk, EndsDesk, IsReported, Surroundings, Runs}
-use Rattle.loadctl.specs.Desk.IsReported.{whole, cut}
+use Rattle.desk_run.specs.declared.fault.DeskFault.TheVariants.{Fleet, Unread, Keeper, BadTable, TooMany, NoMemory}
+use Rattle.desk_run.proofs.Causes.{refused-no_fleet, refused-reported, servable-fleet, servable-right, servable-few, unrefused-ends, read-failed, write-failed}
+use Rattle.plan_commands.specs.Arguments.{BeginsWithMinus, arguments_of}
+use Rattle.loadctl.specs.Desk.{most_aircraft, surroundings, fault_text, status_of_end, status_of_fault, IsStoreName, AskForDesk, AskForFile, EndsDesk, IsComplete, IsReported, IsUnopened, NoneFailed, Surroundings, Runs}
+use Rattle.loadctl.specs.Desk.IsReported.{whole, cut, no_memory}
 use Rattle.loadctl.specs.Desk.EndsDesk.{served, unopened}
+
+-- what is said of these words holds of the words that an answer gives, where it gives these
+pub said-of-given : {X E : Type 0} (answer : Result X E) (words : List (String Global)) (given : X → List (String Global)) (P : List (String Global) → Type 0)
+    → IfOk answer (λ x. words ≡ given x) → P words → IfOk answer (λ x. P (given x))
+said-of-given (Ok x) words given P is said = subst P is said
+said-of-given (Err e) words given P is said = tt
 
 -- the first two and the others
 pub two_and_more : {X : Type 0} (xs : List X) (a b d0 d1 : X) → 2 ≤ length xs → a ≡ get_or xs 0 d0 → b ≡ get_or xs 1 d1 → xs ≡ a ∷ b ∷ take (length xs - 2) (drop 2 xs)
@@ -27,12 +37,14 @@ two_and_more (x0 ∷ []) a b d0 d1 n p q = absurd (omega (arith, n))
 two_and_more (x0 ∷ x1 ∷ more) a b d0 d1 n p q = rw (p, q) (ap (λ ys. x0 ∷ x1 ∷ ys) (sym (take_all (length (x0 ∷ x1 ∷ more) - 2) more (omega arith))))
 
 module _ (arguments : List (String Global)) (command store : String Global) (rest : List (String Global)) (parts : arguments ≡ command ∷ store ∷ rest) where
-  pub desk-asked : string_bytes command ≡ codes "desk" → string_bytes store ≡ codes ":memory:" → 1 ≤ length rest → length rest ≤ most_aircraft
+  pub desk-asked : string_bytes command ≡ codes "desk" → IsStoreName (string_bytes store) → 1 ≤ length rest → length rest ≤ most_aircraft
       → All (λ argument. BeginsWithMinus argument → ⊥) (arguments_of arguments) → AskForDesk (arguments_of arguments) (arguments_of rest)
-  desk-asked is_desk is_memory some few plain =
+  desk-asked is_desk named some few plain =
       let same : length (arguments_of rest) ≡ length rest = length-map rest string_bytes in
       record {
-        form = ap arguments_of parts ∙ ap₂ (λ a b. a ∷ b ∷ arguments_of rest) is_desk is_memory;
+        store = string_bytes store;
+        form = ap arguments_of parts ∙ ap (λ a. a ∷ string_bytes store ∷ arguments_of rest) is_desk;
+        named = named;
         some = omega arith;
         few = omega arith;
         plain = plain;
@@ -52,8 +64,16 @@ module _ (arguments : List (String Global)) (command store : String Global) (res
   same-head names first second e = (cc, cc)
 
   -- the first two arguments of a desk
-  pub desk-head : (names : List (List ℕ)) → AskForDesk (arguments_of arguments) names → (string_bytes command ≡ codes "desk") × (string_bytes store ≡ codes ":memory:")
-  desk-head names is = same-head names (codes "desk") (codes ":memory:") (sym (ap arguments_of parts) ∙ is.form)
+  pub desk-head : (names : List (List ℕ)) → AskForDesk (arguments_of arguments) names → (string_bytes command ≡ codes "desk") × IsStoreName (string_bytes store)
+  desk-head names is =
+      let head = same-head names (codes "desk") is.store (sym (ap arguments_of parts) ∙ is.form) in
+      (head.0, subst IsStoreName (sym head.1) is.named)
+
+  -- a desk whose store is not the memory has it in a file
+  pub file-asked : (names : List (List ℕ)) → AskForDesk (arguments_of arguments) names → string_bytes store ≢ codes ":memory:" → AskForFile (arguments_of arguments) (string_bytes store)
+  file-asked names is other =
+      let head = same-head names (codes "desk") is.store (sym (ap arguments_of parts) ∙ is.form) in
+      record { names = names; desk = is; same = sym head.1; not_in_memory = other }
 
 module _ (fault : DeskFault) (output output' : Option (List ℕ)) (writes writes' : ℕ) (bytes text : List ℕ) (same : bytes ≡ text) (is : text ≡ fault_text fault) where
   pub reported-whole : (status : ℕ) → status ≡ status_of_fault fault → Appends output output' bytes → writes' ≡ writes → IsReported fault output output' writes writes' status
@@ -78,17 +98,72 @@ module _ (names : List (List ℕ)) (files files' : Option Files) (failed failed'
       → IfErr ending (λ fault. IsReported fault mid output' between writes' status)
       → EndsDesk names (surroundings files failed tables rows (line input output reads writes)) (surroundings files' failed' tables' rows' (line input' output' reads' writes')) opening history status
   desk-ends (Ok end) run cause empty still counted uncounted fails is same reported =
-      rw (is, same.0, same.1) (served end run (uncounted (λ e. cc)))
+      rw (is, same.0, same.1) (served end (λ file refused. refused-no_fleet files names run.opened.fleet file refused run.of_files) run (uncounted (λ e. cc)))
   desk-ends (Err fault) run cause empty still counted uncounted fails is same reported =
       let output_same : mid ≡ output = ap (λ (l : Line). l.output) still in
       let writes_same : between ≡ writes = ap (λ (l : Line). l.failed_writes) still in
       unopened fault record {
         cause = cause;
+        refused = λ file refused. refused-reported files names tables file fault refused cause;
         unread = λ e. counted (ap (λ f. Err f) e);
         read = λ n. uncounted (λ e. n (let f : Err fault ≡ Err Unread = e in cc));
         failed = λ e. fails (ap (λ f. Err f) e);
         unheard = record { input = ap (λ (l : Line). l.input) still; reads = ap (λ (l : Line). l.failed_reads) still };
       } (rw (output_same, writes_same) at reported) empty.0 empty.1
+
+module _ (names : List (List ℕ)) (before after : Surroundings) (none : NoneFailed before after) where
+  reported-ends : (fault : DeskFault) (status : ℕ)
+      → IsReported fault before.line.output after.line.output before.line.failed_writes after.line.failed_writes status → (status ≡ status_of_fault fault) ⊎ (status ≡ 9)
+  reported-ends fault _ (whole appended kept) = inl refl
+  reported-ends fault _ (cut appended rose) = absurd (none.writes rose)
+  reported-ends fault _ (no_memory output writes) = inr refl
+
+  no_memory-ends : (status : ℕ)
+      → IsReported NoMemory before.line.output after.line.output before.line.failed_writes after.line.failed_writes status → status ≡ 9
+  no_memory-ends _ (whole appended kept) = refl
+  no_memory-ends _ (cut appended rose) = absurd (none.writes rose)
+  no_memory-ends _ (no_memory output writes) = refl
+
+  served-ends : (ending : ConnEnd) (opening : List FlightState) (history : List Entry) → CanServe before.files names before.tables before.line.input
+      → IsRunOf before.files names before.tables after.tables before.failed_rows after.failed_rows before.line after.line ending opening history
+      → (status_of_end ending ≡ 0) ⊎ ((status_of_end ending ≡ 13) ⊎ (status_of_end ending ≡ 9))
+  served-ends end.Ended opening history can run = inl refl
+  served-ends (end.Refused reason) opening history can run = absurd (unrefused-ends _ _ _ _ _ _ _ _ _ _ reason can.unrefused run)
+  served-ends end.ReadFault opening history can run = absurd (none.reads (read-failed _ _ _ _ _ _ _ _ _ _ run))
+  served-ends end.WriteFault opening history can run = absurd (none.writes (write-failed _ _ _ _ _ _ _ _ _ _ run))
+  served-ends end.Served opening history can run = inr (inl refl)
+
+  -- a desk that can be served is not left unopened while there is memory
+  unopened-ends : (fault : DeskFault) (status : ℕ) → CanServe before.files names before.tables before.line.input → IsUnopened names before after fault
+      → IsReported fault before.line.output after.line.output before.line.failed_writes after.line.failed_writes status → status ≡ 9
+  unopened-ends (Fleet file) status can is reported = absurd (servable-fleet _ _ _ _ can file is.cause)
+  unopened-ends Unread status can is reported = absurd (none.files (is.unread refl))
+  unopened-ends Keeper status can is reported = absurd (none.rows (is.failed refl))
+  unopened-ends (BadTable key) status can is reported = absurd (servable-right _ _ _ _ can key is.cause)
+  unopened-ends TooMany status can is reported = absurd (servable-few _ _ _ _ can is.cause)
+  unopened-ends NoMemory status can is reported = no_memory-ends status reported
+
+  -- a refused file is reported while there is memory
+  refused-ends : (fault : DeskFault) (status : ℕ) (file : RefusedFile) → ReportsFile file fault → IsUnopened names before after fault
+      → IsReported fault before.line.output after.line.output before.line.failed_writes after.line.failed_writes status → (status ≡ 3) ⊎ (status ≡ 9)
+  refused-ends (Fleet reported) status file tells is printed = reported-ends (Fleet reported) status printed
+  refused-ends Unread status file tells is printed = absurd (none.files (is.unread refl))
+  refused-ends Keeper status file tells is printed = absurd tells
+  refused-ends (BadTable key) status file tells is printed = absurd tells
+  refused-ends TooMany status file tells is printed = absurd tells
+  refused-ends NoMemory status file tells is printed = inr (no_memory-ends status printed)
+
+-- what the files, the kept rows and the input come to where no call fails
+pub desk-complete : (names : List (List ℕ)) (before after : Surroundings) (opening : List FlightState) (history : List Entry) (status : ℕ)
+    → EndsDesk names before after opening history status → IsComplete names before after status
+desk-complete names before after opening history _ (served ending unrefused run read) = record {
+  served = λ can none. served-ends names before after none ending opening history can run;
+  refused = λ file refused none. absurd (unrefused file refused);
+}
+desk-complete names before after opening history status (unopened fault is reported opens says) = record {
+  served = λ can none. inr (inr (unopened-ends names before after none fault status can is reported));
+  refused = λ file refused none. refused-ends names before after none fault status file (is.refused file refused) is reported;
+}
 
 -- the arguments of a run are all but the first
 pub runs-over : {A E : Type 0} (args : Result A E) (given : A → List (String Global)) (arguments : List (String Global)) (before after : Surroundings) (status : ℕ) (opening : List FlightState) (history : List Entry)

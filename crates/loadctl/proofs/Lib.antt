@@ -1,9 +1,2 @@
-pub mod ArgumentLemmas
 pub mod DeskLemmas
-pub mod FileLemmas
-pub mod JobLemmas
-pub mod TreeJobLemmas
-pub mod AnswerLemmas
-pub mod OneJob
-pub mod ReplyLemmas
-pub mod RunLemmas
+pub mod ServeLemmas

@@ -1,5 +1,5 @@
 -- the office of one desk: the arguments that ask for it, and how its run ends
-use Rattle.std.specs.Prelude.{◌≡◌, ◌≢◌, ℕ, ◌≤◌, List, [], ◌∷◌, length, All, codes, Option, Some, None}
+use Rattle.std.specs.Prelude.{◌≡◌, ◌≢◌, ℕ, ◌≤◌, ◌⊎◌, List, [], ◌∷◌, length, All, codes, Option}
 use Rattle.desk_base.specs.Faults.{Rose}
 use Rattle.load_io.specs.Shelf.{Files}
 use Rattle.load_io.specs.Sink.{Appends, AppendsPart}
@@ -8,14 +8,16 @@ use Rattle.flight_state.specs.declared.state.FlightState.{FlightState}
 use Rattle.flight_history.specs.declared.entry.Entry.{Entry}
 use Rattle.plan_text.specs.PlanText.{one_line}
 use Rattle.desk_fleet.specs.FleetText.{refusal_text}
+use Rattle.desk_fleet.specs.declared.fault.RefusedFile.{RefusedFile}
 use Rattle.desk_http.specs.declared.ending.ConnEnd.{ConnEnd}
 use Rattle.desk_http.specs.declared.ending.ConnEnd.TheVariants as end
-use Rattle.desk_run.specs.Faults.{IsNotOpened}
+use Rattle.desk_run.specs.Faults.{IsNotOpened, HaveRefusedFile, ReportsFile}
 use Rattle.desk_run.specs.Runs.{Line, IsRunOf}
+use Rattle.desk_run.specs.Servable.{CanServe}
 use Rattle.desk_run.specs.declared.fault.DeskFault.{DeskFault}
 use Rattle.desk_run.specs.declared.fault.DeskFault.TheVariants.{Fleet, Unread, Keeper, BadTable, TooMany, NoMemory}
-use Rattle.loadctl.specs.Arguments.{BeginsWithMinus}
-use Rattle.loadctl.specs.Run.{Outside, outside, ExitsWith}
+use Rattle.plan_commands.specs.Arguments.{BeginsWithMinus}
+use Rattle.plan_commands.specs.Run.{Outside, outside, ExitsWith}
 
 -- Arguments -------------------------------------------------------------------------------------
 
@@ -23,12 +25,30 @@ use Rattle.loadctl.specs.Run.{Outside, outside, ExitsWith}
 abbrev pub most_aircraft : ℕ
 most_aircraft = 64
 
--- `desk :memory: AIRCRAFT ..`: the arguments ask for an office whose rows are kept in memory, with the aircraft in these files
+-- the name of a store has so many bytes at most
+abbrev pub longest_store : ℕ
+longest_store = 255
+
+-- the argument names a store: the memory as `:memory:`, or else a file
+pub record IsStoreName (name : List ℕ) : Type 0 where
+  pub some : 1 ≤ length name
+  pub few : length name ≤ longest_store
+
+-- `desk STORE AIRCRAFT ..`: the arguments ask for an office whose rows are kept in a store, with the aircraft in these files
 pub record AskForDesk (arguments names : List (List ℕ)) : Type 0 where
-  pub form : arguments ≡ codes "desk" ∷ codes ":memory:" ∷ names
+  pub store : List ℕ
+  pub form : arguments ≡ codes "desk" ∷ store ∷ names
+  pub named : IsStoreName store
   pub some : 1 ≤ length names
   pub few : length names ≤ most_aircraft
   pub plain : All (λ argument. BeginsWithMinus argument → ⊥) arguments
+
+-- they ask for an office whose rows are kept in this file
+pub record AskForFile (arguments : List (List ℕ)) (file : List ℕ) : Type 0 where
+  pub names : List (List ℕ)
+  pub desk : AskForDesk arguments names
+  pub same : desk.store ≡ file
+  pub not_in_memory : file ≢ codes ":memory:"
 
 -- Endings ---------------------------------------------------------------------------------------
 
@@ -85,6 +105,8 @@ pub record IsUnheard (before after : Line) : Type 0 where
 -- the desk with the aircraft in these files was not opened, for this fault
 pub record IsUnopened (names : List (List ℕ)) (before after : Surroundings) (fault : DeskFault) : Type 0 where
   pub cause : IsNotOpened before.files names before.tables fault
+  -- a refused file is reported, unless a file could not be read or memory ran out
+  pub refused : (file : RefusedFile) → HaveRefusedFile before.files names file → ReportsFile file fault
   pub unread : fault ≡ Unread → Rose before.failed_files after.failed_files
   pub read : fault ≢ Unread → after.failed_files ≡ before.failed_files
   pub failed : fault ≡ Keeper → Rose before.failed_rows after.failed_rows
@@ -101,14 +123,28 @@ pub data IsReported (fault : DeskFault) (output output' : Option (List ℕ)) (wr
 
 -- how a run of a desk with the aircraft in these files ends
 pub data EndsDesk (names : List (List ℕ)) (before after : Surroundings) (opening : List FlightState) (history : List Entry) : ℕ → Type 0 where
-  -- it was opened, and served its connection
-  served : (ending : ConnEnd)
+  -- no file is refused; it was opened, and served its connection
+  served : (ending : ConnEnd) → ((file : RefusedFile) → HaveRefusedFile before.files names file → ⊥)
       → IsRunOf before.files names before.tables after.tables before.failed_rows after.failed_rows before.line after.line ending opening history
       → after.failed_files ≡ before.failed_files → EndsDesk names before after opening history (status_of_end ending)
   -- it was not opened, as the output says
   unopened : {status : ℕ} (fault : DeskFault) → IsUnopened names before after fault
       → IsReported fault before.line.output after.line.output before.line.failed_writes after.line.failed_writes status
       → opening ≡ [] → history ≡ [] → EndsDesk names before after opening history status
+
+-- no call to what is outside has failed
+pub record NoneFailed (before after : Surroundings) : Type 0 where
+  pub files : Rose before.failed_files after.failed_files → ⊥
+  pub rows : Rose before.failed_rows after.failed_rows → ⊥
+  pub reads : Rose before.line.failed_reads after.line.failed_reads → ⊥
+  pub writes : Rose before.line.failed_writes after.line.failed_writes → ⊥
+
+-- how a run of a desk with the aircraft in these files ends where no call fails
+pub record IsComplete (names : List (List ℕ)) (before after : Surroundings) (status : ℕ) : Type 0 where
+  -- a desk that can be served is served to the end of its connection, or memory ran out
+  pub served : CanServe before.files names before.tables before.line.input → NoneFailed before after → (status ≡ 0) ⊎ ((status ≡ 13) ⊎ (status ≡ 9))
+  -- a refused file ends the run with 3, or memory ran out
+  pub refused : (file : RefusedFile) → HaveRefusedFile before.files names file → NoneFailed before after → (status ≡ 3) ⊎ (status ≡ 9)
 
 -- a run with arguments that ask for no desk: a reply is printed, and neither the input nor the rows are used
 pub record PrintsAlone (arguments : List (List ℕ)) (before after : Surroundings) (status : ℕ) (opening : List FlightState) (history : List Entry) : Type 0 where
@@ -124,6 +160,6 @@ pub record PrintsAlone (arguments : List (List ℕ)) (before after : Surrounding
 pub data Runs (arguments : List (List ℕ)) (before after : Surroundings) (status : ℕ) (opening : List FlightState) (history : List Entry) : Type 0 where
   printed : PrintsAlone arguments before after status opening history → Runs arguments before after status opening history
   asked_desk : (names : List (List ℕ)) → AskForDesk arguments names → after.files ≡ before.files → before.failed_rows ≤ after.failed_rows
-      → EndsDesk names before after opening history status → Runs arguments before after status opening history
+      → EndsDesk names before after opening history status → IsComplete names before after status → Runs arguments before after status opening history
   -- memory ran out before anything else happened
   no_memory : after ≡ before → opening ≡ [] → history ≡ [] → status ≡ 9 → Runs arguments before after status opening history

@@ -1,40 +1,49 @@
 //! The office of one desk, over one connection.
 
-ghost use Rattle.std.specs.Prelude.{◌≡◌, ◌≤◌, ◌↔◌, IsTrue, IfOk, IfErr, OnOk, IfSome, IfNone, List, ℕ, codes, length};
+ghost use Rattle.std.specs.Prelude.{◌≡◌, ◌≢◌, ◌≤◌, ◌↔◌, IsTrue, IfOk, IfErr, OnOk, IfSome, IfNone, List, ℕ, codes, length};
 ghost use Rattle.desk_run.specs.Runs.{line};
-ghost use Rattle.loadctl.specs.Arguments.{arguments_of};
-ghost use Rattle.loadctl.specs.Desk.{most_aircraft, surroundings, fault_text, status_of_end, status_of_fault, AskForDesk, EndsDesk, IsReported};
+ghost use Rattle.plan_commands.specs.Arguments.{arguments_of};
+ghost use Rattle.loadctl.specs.Desk.{most_aircraft, surroundings, fault_text, status_of_end, status_of_fault, IsStoreName, AskForDesk, AskForFile, EndsDesk, IsReported};
 
-use crate::arguments::are_plain;
-use crate::ending::RanOne;
-use crate::reply_text::two_word_line;
+use crate::ran::RanOne;
 use desk_base::NoMemory;
 use desk_fleet::line_of_refusal;
 use desk_run::{ConnEnd, DeskFault, RanDesk, run_desk};
 use keeper::Keeper;
 use load_io::{Shelf, Sink, Source, write_all};
 use placer::Placing;
+use plan_commands::{are_plain, two_word_line};
 use std::alloc::Global;
 
 /// How many aircraft an office has at most.
 const MOST_AIRCRAFT: usize = 64;
 
-/// Whether the first two arguments ask for a desk whose rows are kept in memory.
-fn ask_for_desk(command: &str, store: &str) -> bool
-    ensures { IsTrue result ↔ (command.now ≡ codes "desk") × (store.now ≡ codes ":memory:") }
+/// How many bytes the name of a store has at most.
+const LONGEST_STORE: usize = 255;
+
+/// Whether the word names a store.
+pub fn is_store_name(word: &str) -> bool
+    ensures { IsTrue result ↔ IsStoreName word.now }
 {
-    command == "desk" && store == ":memory:"
+    (1..=LONGEST_STORE).contains(&word.len())
+}
+
+/// Whether the first two arguments ask for a desk over a store.
+fn ask_for_desk(command: &str, store: &str) -> bool
+    ensures { IsTrue result ↔ (command.now ≡ codes "desk") × IsStoreName store.now }
+{
+    command == "desk" && is_store_name(store)
 }
 
 /// Whether so many files are those of a fleet.
-fn are_fleet(names: &[String]) -> bool
+pub fn are_fleet(names: &[String]) -> bool
     ensures { IsTrue result ↔ (1 ≤ length names.now) × (length names.now ≤ most_aircraft) }
 {
     (1..=MOST_AIRCRAFT).contains(&names.len())
 }
 
-/// `desk :memory: AIRCRAFT ..`: the names of the aircraft's files, if the arguments ask for an office whose rows are
-/// kept in memory.
+/// `desk STORE AIRCRAFT ..`: the names of the aircraft's files, if the arguments ask for an office whose rows are kept in
+/// a store.
 pub fn desk_of(arguments: &[String]) -> Option<&[String]>
     ensures some { IfSome result (λ names. AskForDesk (arguments_of arguments.now) (arguments_of names.now)) }
     ensures none { IfNone result ((names : List (List ℕ)) → AskForDesk (arguments_of arguments.now) names → ⊥) }
@@ -52,6 +61,27 @@ pub fn desk_of(arguments: &[String]) -> Option<&[String]>
         return None;
     }
     Some(names)
+}
+
+/// Whether the store of this name is a file.
+pub fn is_file(store: &str) -> bool
+    ensures { IsTrue result ↔ store.now ≢ codes ":memory:" }
+{
+    store != ":memory:"
+}
+
+/// Whether the arguments ask for an office whose rows are kept in a file.
+pub fn ask_for_file(arguments: &[String]) -> bool
+    ensures asked { IsTrue result → (file : List ℕ) × AskForFile (arguments_of arguments.now) file }
+    ensures not_asked { (file : List ℕ) → AskForFile (arguments_of arguments.now) file → IsTrue result }
+{
+    let [_, store, ..] = arguments else {
+        return false;
+    };
+    match desk_of(arguments) {
+        Some(_) => is_file(store.as_str()),
+        None => false,
+    }
 }
 
 /// What is printed where the desk was not opened. Nothing is where a file could not be read or memory ran out.
@@ -92,7 +122,7 @@ fn status_of_end(end: ConnEnd) -> u8
 }
 
 /// Prints why the desk was not opened, and returns the exit status.
-fn report<O: Sink>(alloc: Global, fault: &DeskFault, out: &mut O) -> u8
+pub fn report<O: Sink>(alloc: Global, fault: &DeskFault, out: &mut O) -> u8
     ensures { IsReported fault.now (O.content out.old) (O.content out.new) (O.faults out.old) (O.faults out.new) result }
 {
     match text_of_fault(alloc, fault) {

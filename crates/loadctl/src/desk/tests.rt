@@ -1,6 +1,6 @@
 // Runs of a desk over files, an input and an output in memory.
 use super::*;
-use crate::program::run;
+use crate::program::run_one;
 use keeper::{Bytes, FailingKeeper, KeptRow, MemoryKeeper};
 use load_io::{MemoryShelf, MemorySink, MemorySource};
 use placer::Direct;
@@ -151,7 +151,7 @@ fn ran<K: Keeper + Drop>(
     };
     let mut input = MemorySource::new(Vec::from_slice(alloc, asked.as_bytes())?, 100, fail);
     let mut out = MemorySink::new(alloc, room as usize, Vec::new(alloc))?;
-    let ran = run(
+    let ran = run_one(
         &(),
         alloc,
         &words,
@@ -209,11 +209,12 @@ fn a_connection_ends_with_its_status(rt: HostRuntime) -> Result<(), Fail> {
 #[test]
 fn a_fleet_is_refused_by_its_first_file(rt: HostRuntime) -> Result<(), Fail> {
     let alloc = rt.alloc();
-    let rows: [(&[&str], u8, &str); 4] = [
+    let rows: [(&[&str], u8, &str); 5] = [
         (&["desk", ":memory:", "a", "b"], 3, "AIRCRAFT 2 FAULT 1\n"),
         (&["desk", ":memory:", "a", "a"], 3, "AIRCRAFT 2 TWICE\n"),
         (&["desk", ":memory:", "c"], 6, ""),
         (&["desk", "a"], 2, "USAGE\n"),
+        (&["desk", "", "a"], 2, "USAGE\n"),
     ];
     for (words, due, printed) in rows {
         let (status, entries, written) = ran(

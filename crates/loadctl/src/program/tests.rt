@@ -260,7 +260,10 @@ fn status_of<F: Shelf, O: Sink>(
 ) -> u8 {
     let mut input = SureSource::new(Vec::new(alloc));
     let keeper = MemoryKeeper::new(alloc);
-    execute(&(), alloc, args, shelf, &mut input, out, keeper, &Direct).status
+    let Ok(words) = words_from(alloc, args) else {
+        return 9;
+    };
+    run_one(&(), alloc, &words, shelf, &mut input, out, keeper, &Direct).status
 }
 
 // The exit status of a run with these arguments, and what it printed in `room` bytes.
@@ -587,7 +590,7 @@ fn a_file_that_is_too_long_is_refused(rt: HostRuntime) -> Result<(), Fail> {
     let mut files = Vec::new(alloc);
     files.push((
         String::from_str(alloc, "t")?,
-        vec![in alloc; b'x'; crate::files::LONGEST_TASK + 1]?,
+        vec![in alloc; b'x'; 1_048_576 + 1]?,
     ))?;
     let mut shelf = MemoryShelf::new(files, Vec::new(alloc));
     let mut out = MemorySink::new(alloc, 100, Vec::new(alloc))?;

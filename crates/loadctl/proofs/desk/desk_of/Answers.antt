@@ -1,9 +1,10 @@
-use Rattle.std.proofs.Common.{sym, ◌∙◌, ◌≡◌}
+use Rattle.std.proofs.Common.{sym, ◌∙◌, subst}
 use Rattle.std.proofs.lemmas.Bool.{false≢true}
 use Rattle.std.proofs.lemmas.List.Elements.{All-map}
 use Rattle.std.specs.Prelude.{List, ℕ, string_bytes}
-use Rattle.loadctl.specs.Arguments.{BeginsWithMinus}
-use Rattle.loadctl.proofs.ArgumentLemmas.{All-from_map}
+use Rattle.plan_commands.specs.Arguments.{BeginsWithMinus}
+use Rattle.loadctl.specs.Desk.{IsStoreName}
+use Rattle.plan_commands.proofs.ArgumentLemmas.{All-from_map}
 use Rattle.loadctl.proofs.DeskLemmas.{two_and_more, desk-asked, desk-count, desk-head}
 use Rattle.loadctl.proofs.desk.desk_of.Goals as goal
 
@@ -14,7 +15,7 @@ pub returns-then-not-ask_for_desk-clause-none : goal.returns-then-not-ask_for_de
 returns-then-not-ask_for_desk-clause-none c names is =
     let parts = two_and_more c.args.arguments.now c.command-item.result c.store-item.result _ _ c.in-len2-up.len_at_least c.command-item.is c.store-item.is in
     let head = desk-head c.args.arguments.now c.command-item.result c.store-item.result _ parts names is in
-    false≢true (sym c.if-not-ask_for_desk.true ∙ c.ask_for_desk.ensures.1 (c.as_str.ensures.value ∙ head.0, c.as_str-2.ensures.value ∙ head.1))
+    false≢true (sym c.if-not-ask_for_desk.true ∙ c.ask_for_desk.ensures.1 (c.as_str.ensures.value ∙ head.0, subst IsStoreName (sym c.as_str-2.ensures.value) head.1))
 
 pub returns-then-not-are_fleet-clause-none : goal.returns-then-not-are_fleet-clause-none
 returns-then-not-are_fleet-clause-none c names is =
@@ -32,5 +33,5 @@ returns-clause-some c =
     let parts = two_and_more c.args.arguments.now c.command-item.result c.store-item.result _ _ c.in-len2-up.len_at_least c.command-item.is c.store-item.is in
     let head = c.ask_for_desk.ensures.0 c.if-not-ask_for_desk.false in
     let count = c.are_fleet.ensures.0 c.if-not-are_fleet.false in
-    desk-asked c.args.arguments.now c.command-item.result c.store-item.result _ parts (sym c.as_str.ensures.value ∙ head.0) (sym c.as_str-2.ensures.value ∙ head.1) count.0 count.1
+    desk-asked c.args.arguments.now c.command-item.result c.store-item.result _ parts (sym c.as_str.ensures.value ∙ head.0) (subst IsStoreName c.as_str-2.ensures.value head.1) count.0 count.1
     (All-map IsPlain string_bytes c.args.arguments.now (c.are_plain.ensures.0 c.if-not-are_plain.false))

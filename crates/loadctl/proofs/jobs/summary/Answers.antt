@@ -1,8 +1,0 @@
-use Rattle.loadctl.proofs.JobLemmas.{is-summary}
-use Rattle.loadctl.proofs.jobs.summary.Goals as goal
-
-pub returns : goal.returns
-returns c =
-    rw c.summary_outcome.ensures
-    (is-summary c.args.number c.in_ok-task.task c.in_ok-answer.answer _ c.in_ok-task.ensures
-    c.in_ok-answer.ensures c.in_ok-summary_text.ensures)

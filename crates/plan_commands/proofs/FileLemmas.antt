@@ -1,0 +1,61 @@
+-- What is read from files.
+use Rattle.std.proofs.Common.{◌≡◌, ℕ, ◌<◌, ◌≤◌, List, length, Option, Some, None, Result, Ok, Err, sym, subst}
+use Rattle.std.specs.Option.{IsSomeAnd}
+use Rattle.std.specs.Result.{IfErr, IsErrAnd}
+use Rattle.plan_commands.specs.declared.ending.Halt.{Halt}
+use Rattle.plan_commands.specs.declared.ending.Halt.TheVariants.{BadInput, ReadFault, NoMemory}
+use Rattle.plan_commands.specs.Halts.{IfBadInput}
+use Rattle.std.specs.Prelude.{IfSome}
+use Rattle.load_io.specs.Shelf.{Files, IsWhole, HasMoreThan}
+use Rattle.hold_limits.specs.Problem.{Problem}
+use Rattle.hold_limits.specs.Faults.{IsLawful}
+use Rattle.problem_text.specs.TaskText.{Spells}
+use Rattle.plan_commands.specs.ReplyText.{longest_task, longest_certificate, long_text}
+use Rattle.plan_commands.specs.Reply.{IsTaskIn, IsRefusal, IsCertificateRefusal, Holds}
+use Rattle.plan_commands.specs.TreeReply.{IsTreeRefusal}
+use Rattle.plan_commands.specs.TreeReply.IsTreeRefusal.{too_long as trees_too_long}
+use Rattle.plan_commands.specs.Reply.IsRefusal.{too_long as task_too_long}
+use Rattle.plan_commands.specs.Reply.IsCertificateRefusal.{too_long as certificate_too_long}
+
+-- a lawful task that the bytes spell, as a reader returns it
+pub IsTaskIn-from_read : (bytes : List ℕ) (t : Problem) → length bytes ≤ longest_task → Spells bytes t → IsLawful t → IsTaskIn bytes t
+IsTaskIn-from_read bytes t short spelled lawful = record { short = short; spelled = spelled; hold = lawful.hold.right; task = lawful.right }
+
+-- what holds of the bytes that were read holds of the file
+pub Holds-from_read : (exposed : Option Files) (name items bytes : List ℕ) (P : List ℕ → Type 0) → IsWhole exposed name items → bytes ≡ items → P bytes
+    → IfSome exposed (λ files. Holds files name P)
+Holds-from_read None name items bytes P there same holds = tt
+Holds-from_read (Some files) name items bytes P there same holds = subst (λ o. IsSomeAnd o P) (sym there) (subst P same holds)
+
+longer : (file : Option (List ℕ)) (most : ℕ) (P : List ℕ → Type 0) → IsSomeAnd file (λ bytes. most < length bytes)
+    → ((bytes : List ℕ) → most < length bytes → P bytes) → IsSomeAnd file P
+longer None most P long each = absurd long
+longer (Some bytes) most P long each = each bytes long
+
+-- what holds of every list of bytes that is too long holds of the file
+pub Holds-from_long : (exposed : Option Files) (name : List ℕ) (most : ℕ) (P : List ℕ → Type 0) → HasMoreThan exposed name most
+    → ((bytes : List ℕ) → most < length bytes → P bytes) → IfSome exposed (λ files. Holds files name P)
+Holds-from_long None name most P long each = tt
+Holds-from_long (Some files) name most P long each = longer (files name) most P long each
+
+pub long-refused : (line bytes : List ℕ) → line ≡ long_text → longest_task < length bytes → IsRefusal bytes line
+long-refused line bytes is long = subst (IsRefusal bytes) (sym is) (task_too_long long)
+
+pub long-certificate-refused : (t : Problem) (line bytes : List ℕ) → line ≡ long_text → longest_certificate < length bytes → IsCertificateRefusal t bytes line
+long-certificate-refused t line bytes is long = subst (IsCertificateRefusal t bytes) (sym is) (certificate_too_long long)
+
+pub long-trees-refused : (t : Problem) (line bytes : List ℕ) → line ≡ long_text → longest_certificate < length bytes → IsTreeRefusal t bytes line
+long-trees-refused t line bytes is long = subst (IsTreeRefusal t bytes) (sym is) (trees_too_long long)
+
+-- what holds of the error that `?` returns
+pub IfErr-from_residual : {X E : Type 0} (r : Result X E) (e : E) (P : E → Type 0) → IsErrAnd r (λ x. x ≡ e) → P e → IfErr r P
+IfErr-from_residual (Ok x) e P is holds = tt
+IfErr-from_residual (Err x) e P is holds = subst P (sym is) holds
+
+-- the refusal of a file that is too long
+pub long-halt : (halt : Halt) (exposed : Option Files) (name : List ℕ) (most : ℕ) (P : List ℕ → List ℕ → Type 0) → IfBadInput halt (λ _. HasMoreThan exposed name most)
+    → IfBadInput halt (λ line. line ≡ long_text) → ((line bytes : List ℕ) → line ≡ long_text → most < length bytes → P line bytes)
+    → IfBadInput halt (λ line. IfSome exposed (λ files. Holds files name (P line)))
+long-halt (BadInput text) exposed name most P long is each = Holds-from_long exposed name most (P text.items) long (λ bytes more. each text.items bytes is more)
+long-halt ReadFault exposed name most P long is each = tt
+long-halt NoMemory exposed name most P long is each = tt

@@ -1,0 +1,176 @@
+-- Replies to the arguments: there is one job for them, and its input is right or refused, never both.
+use Rattle.std.proofs.Common.{◌≡◌, ◌≢◌, ℕ, List, Option, Some, None, arith, lit<, refl, sym, subst}
+use Rattle.std.specs.Option.{IsSomeAnd}
+use Rattle.std.specs.Prelude.{All, IfSome}
+use Rattle.std.proofs.lemmas.List.Elements.{All-weaker}
+use Rattle.load_io.specs.Shelf.{Files}
+use Rattle.hold_parts.specs.Spellings.{IsName}
+use Rattle.hold_parts.specs.declared.parts.Position.{Position}
+use Rattle.hold_limits.specs.Problem.{Problem}
+use Rattle.problem_text.specs.TaskText.{IsSpelledPosition}
+use Rattle.problem_text.specs.declared.fault.TextFault.TheVariants as text
+use Rattle.problem_text.proofs.RefusalLemmas.{spelled_once, lawful_not_refused}
+use Rattle.certificate.specs.declared.fault.CertFault.TheVariants as cert
+use Rattle.certificate.specs.declared.parts.Certificate.{Certificate}
+use Rattle.certificate.proofs.PathLemmas.{clear_names}
+use Rattle.certificate.proofs.ReadLemmas.{spelled_has_no_fault}
+use Rattle.tree_certificate.specs.Listed.{ListedTrees}
+use Rattle.tree_certificate.specs.declared.fault.TreeFault.TheVariants as tree
+use Rattle.tree_certificate.proofs.ReadLemmas.{spelled_has_no_fault as trees_have_no_fault}
+use Rattle.plan_commands.specs.declared.ending.Outcome.{Outcome}
+use Rattle.plan_commands.specs.declared.ending.Outcome.TheVariants.{Usage, BadInput}
+use Rattle.plan_commands.specs.Arguments.{Job, IsCommand, AreInvalid}
+use Rattle.plan_commands.specs.ReplyText.{usage_text}
+use Rattle.plan_commands.specs.TreeReply.{AreTreesIn, IsTreeRefusal, IsTreePlacing, IsTreeJudgement}
+use Rattle.plan_commands.specs.TreeReply.IsTreeRefusal.{too_long as trees_too_long, no_trees}
+use Rattle.plan_commands.specs.TreeReply.IsTreePlacing.{plan as tree_plan, nothing_fits as tree_nothing_fits, undecided}
+use Rattle.plan_commands.specs.TreeReply.IsTreeJudgement.{good as good_trees, rejected as rejected_trees}
+use Rattle.plan_commands.specs.Reply.{IsTaskIn, IsRefusal, IsCertificateIn, IsCertificateRefusal, IsCertificateFile, IsTreeFile, IsPlacing, IsJudgement, IsSummary, IsAnswer, IsBadInput, IsReply, HasInput, HaveInput, HaveBadInput, IsAnswered}
+use Rattle.plan_commands.specs.Reply.IsRefusal.{too_long as task_too_long, no_task}
+use Rattle.plan_commands.specs.Reply.IsCertificateRefusal.{too_long as certificate_too_long, no_certificate}
+use Rattle.plan_commands.specs.Reply.IsPlacing.{plan, nothing_fits, over_budget}
+use Rattle.plan_commands.specs.Reply.IsJudgement.{good, rejected}
+use Rattle.plan_commands.specs.Reply.IsSummary.{plan_summed, none_summed, budget_summed}
+use Rattle.plan_commands.specs.Reply.IsAnswer.{placed, judged, placed_by_trees, trees_judged, summed}
+use Rattle.plan_commands.specs.Reply.IsBadInput.{bad_task, bad_checked_task, bad_certificate, bad_best_task, bad_task_of_trees, bad_trees}
+use Rattle.plan_commands.specs.Reply.IsReply.{answered, refused, usage}
+use Rattle.plan_commands.specs.Reply.IsAnswered.{is_done, is_nothing_fits, is_over_budget, is_undecided, is_rejected}
+use Rattle.plan_commands.specs.Run.{IsReplyOver}
+use Rattle.plan_commands.proofs.OneJob.{one_form}
+
+-- Right and refused -----------------------------------------------------------------------------
+
+-- what holds of the bytes of a file, twice
+both : {X : Type 0} (file : Option (List ℕ)) (P Q : List ℕ → Type 0) → IsSomeAnd file P → IsSomeAnd file Q → ((bytes : List ℕ) → P bytes → Q bytes → X) → X
+both None P Q p q then = absurd p
+both (Some bytes) P Q p q then = then bytes p q
+
+task-not_refused : (bytes line : List ℕ) (t : Problem) → IsTaskIn bytes t → IsRefusal bytes line → ⊥
+task-not_refused bytes _ t right (task_too_long long) = absurd (omega (arith, right.short))
+task-not_refused bytes _ t right (no_task fault line short why is) =
+    let none : fault ≡ text.NoMemory = lawful_not_refused bytes t fault right.spelled right.hold right.task why in
+    rw none at is
+
+-- the positions of a task that a text spells have names
+names : (bytes : List ℕ) (t : Problem) → IsTaskIn bytes t → All (λ (q : Position). IsName q.name) t.hold.positions
+names bytes t right = All-weaker IsSpelledPosition (λ (q : Position). IsName q.name) (λ q spelled. spelled.name) t.hold.positions right.spelled.spelled.positions
+
+certificate-not_refused : (t : Problem) (bytes line : List ℕ) (c : Certificate) → All (λ (q : Position). IsName q.name) t.hold.positions
+    → IsCertificateIn t bytes c → IsCertificateRefusal t bytes line → ⊥
+certificate-not_refused t bytes _ c named right (certificate_too_long long) = absurd (omega (arith, right.short))
+certificate-not_refused t bytes _ c named right (no_certificate fault line short why is) =
+    let ps = t.hold.positions in
+    let none : fault ≡ cert.NoMemory = spelled_has_no_fault ps (clear_names 32 ps (lit< tt) named) (clear_names 10 ps (lit< tt) named) bytes c fault right.spelled why in
+    rw none at is
+
+trees-not_refused : (t : Problem) (bytes line : List ℕ) (c : ListedTrees) → All (λ (q : Position). IsName q.name) t.hold.positions
+    → AreTreesIn t bytes c → IsTreeRefusal t bytes line → ⊥
+trees-not_refused t bytes _ c named right (trees_too_long long) = absurd (omega (arith, right.short))
+trees-not_refused t bytes _ c named right (no_trees fault line short why is) =
+    let none : fault ≡ tree.NoMemory = trees_have_no_fault t.hold.positions named bytes c fault right.spelled why in
+    rw none at is
+
+-- the files of a job are not refused where they are right
+right-not_bad : (files : Files) (job : Job) (line : List ℕ) → IsBadInput files job line → HasInput files job → ⊥
+right-not_bad files _ _ (bad_task task budget line wrong) input =
+    both (files task) (λ bytes. IsTaskIn bytes input.0) (λ bytes. IsRefusal bytes line) input.1 wrong (λ bytes right long. task-not_refused bytes line input.0 right long)
+right-not_bad files _ _ (bad_checked_task task certificate line wrong) input =
+    both (files task) (λ bytes. IsTaskIn bytes input.0) (λ bytes. IsRefusal bytes line) input.2 wrong (λ bytes right long. task-not_refused bytes line input.0 right long)
+right-not_bad files _ _ (bad_certificate task certificate t line there wrong) input =
+    both (files task) (λ bytes. IsTaskIn bytes input.0) (λ bytes. IsTaskIn bytes t) input.2 there
+    (λ bytes right other.
+    let same : input.0 ≡ t = spelled_once bytes input.0 t right.spelled other.spelled in
+    both (files certificate) (λ bytes. IsCertificateIn t bytes input.1) (λ bytes. IsCertificateRefusal t bytes line)
+    (subst (λ (p : Problem). IsCertificateFile files certificate p input.1) same input.3) wrong
+    (λ evidence whole refusal. certificate-not_refused t evidence line input.1 (names bytes t other) whole refusal))
+right-not_bad files _ _ (bad_best_task task looks line wrong) input =
+    both (files task) (λ bytes. IsTaskIn bytes input.0) (λ bytes. IsRefusal bytes line) input.1 wrong (λ bytes right long. task-not_refused bytes line input.0 right long)
+right-not_bad files _ _ (bad_task_of_trees task certificate line wrong) input =
+    both (files task) (λ bytes. IsTaskIn bytes input.0) (λ bytes. IsRefusal bytes line) input.2 wrong (λ bytes right long. task-not_refused bytes line input.0 right long)
+right-not_bad files _ _ (bad_trees task certificate t line there wrong) input =
+    both (files task) (λ bytes. IsTaskIn bytes input.0) (λ bytes. IsTaskIn bytes t) input.2 there
+    (λ bytes right other.
+    let same : input.0 ≡ t = spelled_once bytes input.0 t right.spelled other.spelled in
+    both (files certificate) (λ bytes. AreTreesIn t bytes input.1) (λ bytes. IsTreeRefusal t bytes line)
+    (subst (λ (p : Problem). IsTreeFile files certificate p input.1) same input.3) wrong
+    (λ evidence whole refusal. trees-not_refused t evidence line input.1 (names bytes t other) whole refusal))
+
+-- Answers ---------------------------------------------------------------------------------------
+
+pub placing-answered : (t : Problem) (budget : ℕ) (outcome : Outcome) (text : List ℕ) → IsPlacing t budget outcome text → IsAnswered outcome
+placing-answered t budget _ _ (plan path c best claim evidence) = is_done
+placing-answered t budget _ _ (nothing_fits c none claim evidence) = is_nothing_fits
+placing-answered t budget _ _ (over_budget more) = is_over_budget
+
+pub judgement-answered : (t : Problem) (c : Certificate) (outcome : Outcome) (text : List ℕ) → IsJudgement t c outcome text → IsAnswered outcome
+judgement-answered t c _ _ (good is) = is_done
+judgement-answered t c _ _ (rejected reason first) = is_rejected
+
+pub summary-answered : (number : ℕ) (outcome : Outcome) (text : List ℕ) → IsSummary number outcome text → IsAnswered outcome
+summary-answered number _ _ (plan_summed path c best claim evidence) = is_done
+summary-answered number _ _ (none_summed c none claim evidence) = is_done
+summary-answered number _ _ (budget_summed more) = is_over_budget
+
+pub tree-placing-answered : (t : Problem) (looks : ℕ) (outcome : Outcome) (text : List ℕ) → IsTreePlacing t looks outcome text → IsAnswered outcome
+tree-placing-answered t looks _ _ (tree_plan path c best claim is_good) = is_done
+tree-placing-answered t looks _ _ (tree_nothing_fits c none claim is_good) = is_nothing_fits
+tree-placing-answered t looks _ _ undecided = is_undecided
+
+pub tree-judgement-answered : (t : Problem) (c : ListedTrees) (outcome : Outcome) (text : List ℕ) → IsTreeJudgement t c outcome text → IsAnswered outcome
+tree-judgement-answered t c _ _ (good_trees is) = is_done
+tree-judgement-answered t c _ _ (rejected_trees reason line not_good first is) = is_rejected
+
+answer-answered : (files : Files) (job : Job) (outcome : Outcome) (text : List ℕ) → IsAnswer files job outcome text → IsAnswered outcome
+answer-answered files _ _ _ (placed task budget t outcome text file is) = placing-answered t budget outcome text is
+answer-answered files _ _ _ (judged task certificate t c outcome text file evidence is) = judgement-answered t c outcome text is
+answer-answered files _ _ _ (placed_by_trees task looks t outcome text file is) = tree-placing-answered t looks outcome text is
+answer-answered files _ _ _ (trees_judged task certificate t c outcome text file evidence is) = tree-judgement-answered t c outcome text is
+answer-answered files _ _ _ (summed number outcome text is) = summary-answered number outcome text is
+
+answer-input : (files : Files) (job : Job) (outcome : Outcome) (text : List ℕ) → IsAnswer files job outcome text → HasInput files job
+answer-input files _ _ _ (placed task budget t outcome text file is) = (t, file)
+answer-input files _ _ _ (judged task certificate t c outcome text file evidence is) = (t, c, file, evidence)
+answer-input files _ _ _ (placed_by_trees task looks t outcome text file is) = (t, file)
+answer-input files _ _ _ (trees_judged task certificate t c outcome text file evidence is) = (t, c, file, evidence)
+answer-input files _ _ _ (summed number outcome text is) = tt
+
+pub answered-not_usage : (outcome : Outcome) → IsAnswered outcome → outcome ≢ Usage
+answered-not_usage _ is_done = λ e. cc
+answered-not_usage _ is_nothing_fits = λ e. cc
+answered-not_usage _ is_over_budget = λ e. cc
+answered-not_usage _ is_undecided = λ e. cc
+answered-not_usage _ is_rejected = λ e. cc
+
+-- Replies ---------------------------------------------------------------------------------------
+
+pub answered-from_reply : (arguments : List (List ℕ)) (files : Files) (outcome : Outcome) (text : List ℕ) → HaveInput arguments files
+    → IsReply arguments files outcome text → IsAnswered outcome
+answered-from_reply arguments files _ _ input (answered job outcome text command is) = answer-answered files job outcome text is
+answered-from_reply arguments files _ _ input (refused job line command bad) =
+    let same : input.0 ≡ job = one_form arguments input.0 job input.1.form command.form in
+    absurd (right-not_bad files job line bad (subst (HasInput files) same input.2))
+answered-from_reply arguments files _ _ input (usage invalid) = absurd (invalid input.0 input.1)
+
+pub bad_input-from_reply : (arguments : List (List ℕ)) (files : Files) (outcome : Outcome) (text : List ℕ) → HaveBadInput arguments files
+    → IsReply arguments files outcome text → outcome ≡ BadInput
+bad_input-from_reply arguments files _ _ input (answered job outcome text command is) =
+    let same : input.0 ≡ job = one_form arguments input.0 job input.2.form command.form in
+    absurd (right-not_bad files job input.1 (subst (λ j. IsBadInput files j input.1) same input.3) (answer-input files job outcome text is))
+bad_input-from_reply arguments files _ _ input (refused job line command bad) = refl
+bad_input-from_reply arguments files _ _ input (usage invalid) = absurd (invalid input.0 input.2)
+
+pub usage-reply : (arguments : List (List ℕ)) (exposed : Option Files) (outcome : Outcome) (text : List ℕ) → AreInvalid arguments → outcome ≡ Usage → text ≡ usage_text
+    → IsReplyOver arguments exposed outcome text
+usage-reply arguments None outcome text invalid is line = tt
+usage-reply arguments (Some files) outcome text invalid is line =
+    subst (λ o. IsReply arguments files o text) (sym is) (subst (IsReply arguments files Usage) (sym line) (usage invalid))
+
+pub answered-reply : (arguments : List (List ℕ)) (exposed : Option Files) (job : Job) (outcome : Outcome) (text : List ℕ) → IsCommand arguments job
+    → IfSome exposed (λ files. IsAnswer files job outcome text) → IsReplyOver arguments exposed outcome text
+answered-reply arguments None job outcome text command is = tt
+answered-reply arguments (Some files) job outcome text command is = answered job outcome text command is
+
+pub refused-reply : (arguments : List (List ℕ)) (exposed : Option Files) (job : Job) (line : List ℕ) → IsCommand arguments job
+    → IfSome exposed (λ files. IsBadInput files job line) → IsReplyOver arguments exposed BadInput line
+refused-reply arguments None job line command is = tt
+refused-reply arguments (Some files) job line command is = refused job line command is

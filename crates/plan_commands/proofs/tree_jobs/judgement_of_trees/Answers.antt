@@ -1,0 +1,16 @@
+use Rattle.std.proofs.Common.{refl, subst, sym}
+use Rattle.tree_certificate.specs.Listed.{listed_trees}
+use Rattle.plan_commands.specs.declared.ending.Outcome.TheVariants.{Done}
+use Rattle.plan_commands.specs.TreeReply.{IsTreeJudgement}
+use Rattle.plan_commands.specs.TreeReply.IsTreeJudgement.{good}
+use Rattle.plan_commands.proofs.TreeJobLemmas.{rejected-judgement}
+use Rattle.plan_commands.proofs.tree_jobs.judgement_of_trees.Goals as goal
+
+pub returns-in_ok-good_line-in-Ok : goal.returns-in_ok-good_line-in-Ok
+returns-in_ok-good_line-in-Ok c =
+    subst (IsTreeJudgement c.args.task.now (listed_trees c.args.certificate.now) Done) (sym c.in_ok-good_line-in-Ok.ensures) (good c.in-Ok.ensures.good)
+
+pub returns-in_ok-rejected_trees_line-in-Err : goal.returns-in_ok-rejected_trees_line-in-Err
+returns-in_ok-rejected_trees_line-in-Err c =
+    rejected-judgement _ c.args.task.now (listed_trees c.args.certificate.now) c.in-Err.reason _ refl c.in-Err.ensures.accepted c.in-Err.ensures.refused
+    c.in_ok-rejected_trees_line-in-Err.ensures

@@ -1,0 +1,151 @@
+//! Reading the files that a job names.
+
+ghost use Rattle.std.specs.Prelude.{◌≡◌, ◌≢◌, ◌≤◌, Err, IfOk, IfErr, IfSome, length};
+ghost use Rattle.desk_base.specs.Faults.{Rose};
+ghost use Rattle.load_io.specs.Shelf.{IsWhole, HasMoreThan};
+ghost use Rattle.plan_commands.specs.ReplyText.{longest_task, longest_certificate, long_text};
+ghost use Rattle.tree_certificate.specs.Listed.{listed_trees};
+ghost use Rattle.plan_commands.specs.TreeReply.{AreTreesIn, IsTreeRefusal};
+ghost use Rattle.plan_commands.specs.Reply.{IsTaskIn, IsRefusal, IsCertificateIn, IsCertificateRefusal, IsTaskFile, IsRefusedTask, IsCertificateFile, IsRefusedCertificate, IsTreeFile, AreRefusedTrees};
+ghost use Rattle.plan_commands.specs.Halts.{IfBadInput};
+
+use crate::ending::Halt;
+use crate::reply_text::{
+    line_of_certificate_fault, line_of_fault, line_of_tree_fault, two_word_line,
+};
+use certificate::{Certificate, read_certificate};
+use hold_limits::Task;
+use load_io::{Shelf, ShelfFault};
+use problem_text::read_task;
+use std::alloc::Global;
+use tree_certificate::{TreeCertificate, read_trees};
+
+/// The greatest length of a task's file, in bytes.
+pub const LONGEST_TASK: usize = 1_048_576;
+
+/// The greatest length of a certificate's file, in bytes, whatever its evidence is.
+const LONGEST_CERTIFICATE: usize = 805_306_368;
+
+/// The refusal of a file that is too long.
+fn too_long(alloc: Global) -> Halt
+    ensures line { IfBadInput result (λ line. line ≡ long_text) }
+    ensures unread { result ≢ Halt.ReadFault }
+{
+    match two_word_line(alloc, b"INPUT", b"LONG") {
+        Ok(line) => Halt::BadInput(line),
+        Err(_) => Halt::NoMemory,
+    }
+}
+
+/// The bytes of a file, which are at most so many.
+fn bytes_from<F: Shelf>(
+    alloc: Global,
+    shelf: &mut F,
+    name: &str,
+    most: usize,
+) -> Result<Vec<u8>, Halt>
+    ensures whole { IfOk result (λ bytes. IsWhole (F.files shelf.old) name.now bytes.items) }
+    ensures short { IfOk result (λ bytes. length bytes.items ≤ most) }
+    ensures long { IfErr result (λ halt. IfBadInput halt (λ _. HasMoreThan (F.files shelf.old) name.now most)) }
+    ensures line { IfErr result (λ halt. IfBadInput halt (λ line. line ≡ long_text)) }
+    ensures counted { result ≡ Err Halt.ReadFault → Rose (F.faults shelf.old) (F.faults shelf.new) }
+    ensures uncounted { result ≢ Err Halt.ReadFault → F.faults shelf.new ≡ F.faults shelf.old }
+    ensures same { F.files shelf.new ≡ F.files shelf.old }
+{
+    match shelf.read(alloc, name, most) {
+        Ok(bytes) => Ok(bytes),
+        Err(ShelfFault::TooLong) => Err(too_long(alloc)),
+        Err(ShelfFault::Failed) => Err(Halt::ReadFault),
+        Err(ShelfFault::NoMemory) => Err(Halt::NoMemory),
+    }
+}
+
+/// The task that the bytes of a file spell.
+fn task_of(alloc: Global, bytes: &[u8]) -> Result<Task, Halt>
+    requires { length bytes.now ≤ longest_task }
+    ensures read { IfOk result (IsTaskIn bytes.now) }
+    ensures refused { IfErr result (λ halt. IfBadInput halt (IsRefusal bytes.now)) }
+    ensures unread { result ≢ Err Halt.ReadFault }
+{
+    match read_task(alloc, bytes) {
+        Ok(task) => Ok(task),
+        Err(fault) => Err(Halt::BadInput(line_of_fault(alloc, fault)?)),
+    }
+}
+
+/// The certificate that the bytes of a file spell.
+fn certificate_of(alloc: Global, task: &Task, bytes: &[u8]) -> Result<Certificate, Halt>
+    requires { length bytes.now ≤ longest_certificate }
+    ensures read { IfOk result (IsCertificateIn task.now bytes.now) }
+    ensures refused { IfErr result (λ halt. IfBadInput halt (IsCertificateRefusal task.now bytes.now)) }
+    ensures unread { result ≢ Err Halt.ReadFault }
+{
+    match read_certificate(alloc, task, bytes) {
+        Ok(certificate) => Ok(certificate),
+        Err(fault) => Err(Halt::BadInput(line_of_certificate_fault(alloc, fault)?)),
+    }
+}
+
+/// The certificate of trees that the bytes of a file spell.
+fn trees_of(alloc: Global, task: &Task, bytes: &[u8]) -> Result<TreeCertificate, Halt>
+    requires { length bytes.now ≤ longest_certificate }
+    ensures read { IfOk result (λ c. AreTreesIn task.now bytes.now (listed_trees c)) }
+    ensures refused { IfErr result (λ halt. IfBadInput halt (IsTreeRefusal task.now bytes.now)) }
+    ensures unread { result ≢ Err Halt.ReadFault }
+{
+    match read_trees(alloc, task, bytes) {
+        Ok(certificate) => Ok(certificate),
+        Err(fault) => Err(Halt::BadInput(line_of_tree_fault(alloc, fault)?)),
+    }
+}
+
+/// The task in a file.
+pub fn task_from<F: Shelf>(alloc: Global, shelf: &mut F, name: &str) -> Result<Task, Halt>
+    ensures read { IfOk result (λ task. IfSome (F.files shelf.old) (λ files. IsTaskFile files name.now task)) }
+    ensures refused { IfErr result (λ halt. IfBadInput halt
+        (λ line. IfSome (F.files shelf.old) (λ files. IsRefusedTask files name.now line))) }
+    ensures counted { result ≡ Err Halt.ReadFault → Rose (F.faults shelf.old) (F.faults shelf.new) }
+    ensures uncounted { result ≢ Err Halt.ReadFault → F.faults shelf.new ≡ F.faults shelf.old }
+    ensures same { F.files shelf.new ≡ F.files shelf.old }
+{
+    let bytes = bytes_from(alloc, shelf, name, LONGEST_TASK)?;
+    task_of(alloc, bytes.as_slice())
+}
+
+/// The certificate in a file, for a task.
+pub fn certificate_from<F: Shelf>(
+    alloc: Global,
+    shelf: &mut F,
+    task: &Task,
+    name: &str,
+) -> Result<Certificate, Halt>
+    ensures read { IfOk result
+        (λ c. IfSome (F.files shelf.old) (λ files. IsCertificateFile files name.now task.now c)) }
+    ensures refused { IfErr result (λ halt. IfBadInput halt
+        (λ line. IfSome (F.files shelf.old) (λ files. IsRefusedCertificate files name.now task.now line))) }
+    ensures counted { result ≡ Err Halt.ReadFault → Rose (F.faults shelf.old) (F.faults shelf.new) }
+    ensures uncounted { result ≢ Err Halt.ReadFault → F.faults shelf.new ≡ F.faults shelf.old }
+    ensures same { F.files shelf.new ≡ F.files shelf.old }
+{
+    let bytes = bytes_from(alloc, shelf, name, LONGEST_CERTIFICATE)?;
+    certificate_of(alloc, task, bytes.as_slice())
+}
+
+/// The certificate of trees in a file, for a task.
+pub fn trees_from<F: Shelf>(
+    alloc: Global,
+    shelf: &mut F,
+    task: &Task,
+    name: &str,
+) -> Result<TreeCertificate, Halt>
+    ensures read { IfOk result
+        (λ c. IfSome (F.files shelf.old) (λ files. IsTreeFile files name.now task.now (listed_trees c))) }
+    ensures refused { IfErr result (λ halt. IfBadInput halt
+        (λ line. IfSome (F.files shelf.old) (λ files. AreRefusedTrees files name.now task.now line))) }
+    ensures counted { result ≡ Err Halt.ReadFault → Rose (F.faults shelf.old) (F.faults shelf.new) }
+    ensures uncounted { result ≢ Err Halt.ReadFault → F.faults shelf.new ≡ F.faults shelf.old }
+    ensures same { F.files shelf.new ≡ F.files shelf.old }
+{
+    let bytes = bytes_from(alloc, shelf, name, LONGEST_CERTIFICATE)?;
+    trees_of(alloc, task, bytes.as_slice())
+}

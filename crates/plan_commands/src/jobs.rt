@@ -1,0 +1,219 @@
+//! What the program does for each command.
+
+ghost use Rattle.std.specs.Prelude.{◌≡◌, ◌≢◌, ◌≤◌, ◌++◌, ℕ, List, All, Err, IfOk, IfErr, IfSome, OnOk, length, Some};
+ghost use Rattle.desk_base.specs.Faults.{Rose};
+ghost use Rattle.hold_parts.specs.declared.parts.Item.{Item};
+ghost use Rattle.certificate.specs.Evidence.{claimed};
+ghost use Rattle.generated_load.specs.Load.{generated_problem};
+ghost use Rattle.placer.specs.Answers.{IfBest};
+ghost use Rattle.plan_commands.specs.Commands.{job_of};
+ghost use Rattle.plan_commands.specs.Outcomes.{outcome_of, summary_outcome, IsSummaryText};
+ghost use Rattle.plan_commands.specs.Halts.{IfBadInput};
+ghost use Rattle.plan_commands.specs.Reply.{IsPlacing, IsJudgement, IsSummary, IsAnswer, IsAnswered, IsBadInput};
+ghost use Rattle.plan_commands.specs.ReplyText.{total_mass, load_lines, count_lines, plan_summary, none_summary, budget_summary};
+ghost use Rattle.text_lines.specs.Lines.{text_of};
+
+use crate::arguments::{Command, USUAL_BUDGET};
+use crate::ending::{Halt, Outcome, Reply};
+use crate::files::{certificate_from, task_from, trees_from};
+use crate::reply_text::{good_line, push_number_line, rejected_line};
+use crate::tree_jobs::{judgement_of_trees, placing_by_trees};
+use cert_checker::{NoPlan, Proven, check};
+use certificate::Certificate;
+use desk_base::NoMemory;
+use generated_load::generated_task;
+use hold_limits::{Item, Task};
+use load_io::Shelf;
+use placer::{Answer, place, write_answer};
+use plan_text::push_balance;
+use std::alloc::Global;
+use telex::Builder;
+
+fn outcome_of(answer: &Answer) -> Outcome
+    ensures { result ≡ outcome_of answer.now }
+{
+    match answer {
+        Answer::Best(_) => Outcome::Done,
+        Answer::NoneFits(_) => Outcome::NothingFits,
+        Answer::Budget(_) => Outcome::OverBudget,
+    }
+}
+
+/// The best placement of a task.
+fn placing(alloc: Global, task: &Task, budget: u32) -> Result<Reply, NoMemory>
+    ensures { IfOk result (λ reply. IsPlacing task.now budget reply.outcome reply.text.items) }
+{
+    let answer = place(alloc, task, budget)?;
+    Ok(Reply {
+        outcome: outcome_of(&answer),
+        text: write_answer(alloc, task, &answer)?,
+    })
+}
+
+/// Whether a certificate is good for a task.
+fn judgement(alloc: Global, task: &Task, certificate: &Certificate) -> Result<Reply, NoMemory>
+    ensures { IfOk result (λ reply. IsJudgement task.now certificate.now reply.outcome reply.text.items) }
+{
+    match check(task, certificate) {
+        Ok(()) => Ok(Reply {
+            outcome: Outcome::Done,
+            text: good_line(alloc, &certificate.claim)?,
+        }),
+        Err(reason) => Ok(Reply {
+            outcome: Outcome::Rejected,
+            text: rejected_line(alloc, task, &reason)?,
+        }),
+    }
+}
+
+/// The mass of some containers together, in kilograms.
+fn total_mass(items: &[Item]) -> u64
+    requires few { length items.now ≤ 60 }
+    requires light { All (λ (item : Item). item.mass.0 ≤ 20000) items.now }
+    ensures { result ≡ total_mass items.now }
+{
+    let mut total = 0;
+    for item in items {
+        total += u64::from(item.mass.0);
+    }
+    total
+}
+
+/// A text that begins with the number of a generated load, and its mass.
+fn load_head(alloc: Global, number: u32, task: &Task) -> Result<Builder, NoMemory>
+    requires { task.now ≡ generated_problem number }
+    ensures { IfOk result (λ out. out ≡ text_of (load_lines number)) }
+{
+    let mut out = Builder::new(alloc);
+    push_number_line(&mut out, b"GEN", u64::from(number))?;
+    push_number_line(&mut out, b"mass", total_mass(task.items()))?;
+    Ok(out)
+}
+
+/// Appends how many cuts a certificate has, and how many prefixes were looked at.
+fn push_counts(out: &mut Builder, c: &Certificate) -> Result<(), NoMemory>
+    ensures { OnOk result (out.new ≡ out.old ++ text_of (count_lines c.now)) }
+{
+    push_number_line(out, b"cuts", c.cuts.as_slice().len() as u64)?;
+    push_number_line(out, b"expanded", u64::from(c.expanded))?;
+    out.text(b"END\n")
+}
+
+fn plan_summary(
+    alloc: Global,
+    number: u32,
+    task: &Task,
+    proven: &Proven,
+) -> Result<Vec<u8>, NoMemory>
+    requires made { task.now ≡ generated_problem number }
+    requires same { proven.now.task ≡ task.now }
+    ensures { (path : List ℕ) → claimed proven.now.certificate.claim ≡ Some path
+        → IfOk result (λ text. text.items ≡ plan_summary number path proven.now.certificate) }
+{
+    let mut out = load_head(alloc, number, task)?;
+    out.text(b"PLAN\n")?;
+    push_balance(&mut out, task, proven.path())?;
+    push_counts(&mut out, proven.certificate())?;
+    Ok(out.finish())
+}
+
+fn none_summary(
+    alloc: Global,
+    number: u32,
+    task: &Task,
+    no_plan: &NoPlan,
+) -> Result<Vec<u8>, NoMemory>
+    requires { task.now ≡ generated_problem number }
+    ensures { IfOk result (λ text. text.items ≡ none_summary number no_plan.now.certificate) }
+{
+    let mut out = load_head(alloc, number, task)?;
+    out.text(b"NONE\n")?;
+    push_counts(&mut out, no_plan.certificate())?;
+    Ok(out.finish())
+}
+
+fn budget_summary(alloc: Global, number: u32, task: &Task) -> Result<Vec<u8>, NoMemory>
+    requires { task.now ≡ generated_problem number }
+    ensures { IfOk result (λ text. text.items ≡ budget_summary number) }
+{
+    let mut out = load_head(alloc, number, task)?;
+    push_number_line(&mut out, b"BUDGET", u64::from(USUAL_BUDGET))?;
+    Ok(out.finish())
+}
+
+fn summary_text(
+    alloc: Global,
+    number: u32,
+    task: &Task,
+    answer: &Answer,
+) -> Result<Vec<u8>, NoMemory>
+    requires made { task.now ≡ generated_problem number }
+    requires same { IfBest answer.now (λ proven. proven.task ≡ task.now) }
+    ensures { IfOk result (λ text. IsSummaryText number answer.now text.items) }
+{
+    match answer {
+        Answer::Best(proven) => plan_summary(alloc, number, task, proven),
+        Answer::NoneFits(no_plan) => none_summary(alloc, number, task, no_plan),
+        Answer::Budget(_) => budget_summary(alloc, number, task),
+    }
+}
+
+/// That nothing fits is a summary like others.
+fn summary_outcome(answer: &Answer) -> Outcome
+    ensures { result ≡ summary_outcome answer.now }
+{
+    match answer {
+        Answer::Best(_) | Answer::NoneFits(_) => Outcome::Done,
+        Answer::Budget(_) => Outcome::OverBudget,
+    }
+}
+
+/// The summary of the placement of the load that is made from a number.
+fn summary(alloc: Global, number: u32) -> Result<Reply, NoMemory>
+    ensures { IfOk result (λ reply. IsSummary number reply.outcome reply.text.items) }
+{
+    let task = generated_task(alloc, number)?;
+    let answer = place(alloc, &task, USUAL_BUDGET)?;
+    Ok(Reply {
+        outcome: summary_outcome(&answer),
+        text: summary_text(alloc, number, &task, &answer)?,
+    })
+}
+
+/// The answer to a command. Its files are read in the order of the arguments.
+pub fn answer_to<F: Shelf>(
+    alloc: Global,
+    command: Command<'_>,
+    shelf: &mut F,
+) -> Result<Reply, Halt>
+    ensures answered { IfOk result (λ reply. IfSome (F.files shelf.old)
+        (λ files. IsAnswer files (job_of command.entry) reply.outcome reply.text.items)) }
+    ensures answers { IfOk result (λ reply. IsAnswered reply.outcome) }
+    ensures refused { IfErr result (λ halt. IfBadInput halt
+        (λ line. IfSome (F.files shelf.old) (λ files. IsBadInput files (job_of command.entry) line))) }
+    ensures counted { result ≡ Err Halt.ReadFault → Rose (F.faults shelf.old) (F.faults shelf.new) }
+    ensures uncounted { result ≢ Err Halt.ReadFault → F.faults shelf.new ≡ F.faults shelf.old }
+    ensures same { F.files shelf.new ≡ F.files shelf.old }
+{
+    match command {
+        Command::Place { task, budget } => {
+            let task = task_from(alloc, shelf, task)?;
+            Ok(placing(alloc, &task, budget)?)
+        }
+        Command::Check { task, certificate } => {
+            let task = task_from(alloc, shelf, task)?;
+            let certificate = certificate_from(alloc, shelf, &task, certificate)?;
+            Ok(judgement(alloc, &task, &certificate)?)
+        }
+        Command::Best { task, looks } => {
+            let task = task_from(alloc, shelf, task)?;
+            Ok(placing_by_trees(alloc, &task, looks)?)
+        }
+        Command::CheckTrees { task, certificate } => {
+            let task = task_from(alloc, shelf, task)?;
+            let certificate = trees_from(alloc, shelf, &task, certificate)?;
+            Ok(judgement_of_trees(alloc, &task, &certificate)?)
+        }
+        Command::Generate { number } => Ok(summary(alloc, number)?),
+    }
+}

@@ -1,0 +1,17 @@
+//! The commands about one task: from their arguments to the reply that is printed and the exit status.
+#![tactic(auto)]
+
+mod arguments;
+mod ending;
+mod files;
+mod first_words;
+mod jobs;
+mod printing;
+mod reply_text;
+mod tree_jobs;
+
+pub use arguments::are_plain;
+pub use ending::{Outcome, Stop};
+pub use first_words::arguments_from;
+pub use printing::{exit_status, print};
+pub use reply_text::two_word_line;

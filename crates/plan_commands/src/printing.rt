@@ -1,0 +1,97 @@
+//! The reply to the arguments, and its printing.
+
+ghost use Rattle.std.specs.Prelude.{◌≡◌, ◌≢◌, Err, IfOk};
+ghost use Rattle.desk_base.specs.Faults.{Rose};
+ghost use Rattle.plan_commands.specs.Arguments.{arguments_of, AreInvalid};
+ghost use Rattle.plan_commands.specs.ReplyText.{usage_text};
+ghost use Rattle.plan_commands.specs.Run.{outside, exit_status, IsReplyOver, IsRun, ExitsWith};
+
+use crate::arguments::command_of;
+use crate::ending::{Halt, Outcome, Reply, Stop};
+use crate::jobs::answer_to;
+use crate::reply_text::word_line;
+use load_io::{Shelf, Sink, write_all};
+use std::alloc::Global;
+
+/// The reply to the arguments. Its files are read at most once each, in the order of the arguments.
+fn reply_to<F: Shelf>(alloc: Global, arguments: &[String], shelf: &mut F) -> Result<Reply, Stop>
+    ensures replied { IfOk result (λ reply. IsReplyOver (arguments_of arguments.now)
+        (F.files shelf.old) reply.outcome reply.text.items) }
+    ensures usage { IfOk result (λ reply. reply.outcome ≡ Outcome.Usage
+        → AreInvalid (arguments_of arguments.now) × (reply.text.items ≡ usage_text)) }
+    ensures invalid { AreInvalid (arguments_of arguments.now)
+        → IfOk result (λ reply. reply.outcome ≡ Outcome.Usage) }
+    ensures unread { AreInvalid (arguments_of arguments.now) → result ≢ Err Stop.ReadFault }
+    ensures unwritten { result ≢ Err Stop.WriteFault }
+    ensures counted { result ≡ Err Stop.ReadFault → Rose (F.faults shelf.old) (F.faults shelf.new) }
+    ensures uncounted { result ≢ Err Stop.ReadFault → F.faults shelf.new ≡ F.faults shelf.old }
+    ensures same { F.files shelf.new ≡ F.files shelf.old }
+{
+    let Some(command) = command_of(arguments) else {
+        return Ok(Reply {
+            outcome: Outcome::Usage,
+            text: word_line(alloc, b"USAGE")?,
+        });
+    };
+    match answer_to(alloc, command, shelf) {
+        Ok(reply) => Ok(reply),
+        Err(Halt::BadInput(text)) => Ok(Reply {
+            outcome: Outcome::BadInput,
+            text,
+        }),
+        Err(Halt::ReadFault) => Err(Stop::ReadFault),
+        Err(Halt::NoMemory) => Err(Stop::NoMemory),
+    }
+}
+
+/// Prints the reply to the arguments.
+fn print_reply<F: Shelf, O: Sink>(
+    alloc: Global,
+    arguments: &[String],
+    shelf: &mut F,
+    out: &mut O,
+) -> Result<Outcome, Stop>
+    ensures { IsRun (arguments_of arguments.now)
+        (outside (F.files shelf.old) (F.faults shelf.old) (O.content out.old) (O.faults out.old))
+        (outside (F.files shelf.new) (F.faults shelf.new) (O.content out.new) (O.faults out.new))
+        result }
+{
+    let reply = reply_to(alloc, arguments, shelf)?;
+    match write_all(out, reply.text.as_slice()) {
+        Ok(()) => Ok(reply.outcome),
+        Err(_) => Err(Stop::WriteFault),
+    }
+}
+
+/// The exit status of a run that ends so.
+pub fn exit_status(ending: Result<Outcome, Stop>) -> u8
+    ensures { result ≡ exit_status ending }
+{
+    match ending {
+        Ok(Outcome::Done) => 0,
+        Ok(Outcome::Usage) => 2,
+        Ok(Outcome::BadInput) => 3,
+        Ok(Outcome::NothingFits) => 4,
+        Ok(Outcome::OverBudget) => 5,
+        Ok(Outcome::Undecided) => 5,
+        Ok(Outcome::Rejected) => 10,
+        Err(Stop::ReadFault) => 6,
+        Err(Stop::WriteFault) => 7,
+        Err(Stop::NoMemory) => 9,
+    }
+}
+
+/// Prints the reply to the arguments and returns the exit status. Nothing is printed except on `out`.
+pub fn print<F: Shelf, O: Sink>(
+    alloc: Global,
+    arguments: &[String],
+    shelf: &mut F,
+    out: &mut O,
+) -> u8
+    ensures { ExitsWith (arguments_of arguments.now)
+        (outside (F.files shelf.old) (F.faults shelf.old) (O.content out.old) (O.faults out.old))
+        (outside (F.files shelf.new) (F.faults shelf.new) (O.content out.new) (O.faults out.new))
+        result }
+{
+    exit_status(print_reply(alloc, arguments, shelf, out))
+}
