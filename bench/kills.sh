@@ -1,0 +1,132 @@
+#!/usr/bin/env bash
+# Kills the program at random moments while it takes changes of three flights into a store, and looks after each kill that
+# every edition that it had acknowledged is in the store. bench/kills.sh [PROGRAM [ROUNDS]] takes the program that was
+# proved and built, out/loadctl by default, and 200 rounds.
+#
+# A round starts one program and kills that one, by its process id, at a moment within the time that a whole run takes. The
+# changes of a flight are sent in the order of their editions, so after a kill at most one edition is in the store whose
+# answer did not come. The trip fuel of an edition follows from its number, which shows that a row belongs to its edition.
+set -eu
+
+top=$(dirname "$(dirname "$(readlink -f "$0")")")
+program=$(readlink -f "${1-$top/out/loadctl}")
+rounds=${2-200}
+aircraft=$top/examples/daiab.toml
+days=(11 12 13)
+flights=${#days[@]}
+# A connection has at most 1,000 requests.
+changes=$((999 / flights))
+
+fail() {
+    echo "bench/kills.sh: $*" >&2
+    exit 1
+}
+
+[ -x "$program" ] || fail "$program is not there; ./prove proves and builds it."
+case $rounds in
+    '' | *[!0-9]*) fail "the number of rounds is not a number." ;;
+esac
+[ "$rounds" -le 1000 ] || fail "there are at most 1,000 rounds."
+
+work=$(mktemp -d)
+running=
+stop() {
+    [ -z "$running" ] || kill -KILL "$running" 2>/dev/null || true
+    rm -rf "$work"
+}
+trap stop EXIT
+store=$work/flights.db
+
+# One request: METHOD PATH BODY.
+request() { printf '%s %s HTTP/1.1\r\nContent-Length: %d\r\n\r\n%s' "$1" "$2" "${#3}" "$3"; }
+
+trip_of() { echo $((1 + $1 % 9000)); }
+
+# One run of the program to its end.
+run() { "$program" desk "$store" "$aircraft" <"$work/input" >"$work/output" || fail "the program ended with $?."; }
+
+# The edition and the trip fuel of each flight, as a program that opens the store has them: a line for each flight.
+kept() {
+    local day
+    for day in "${days[@]}"; do request GET "/flights/XX210-$day" ''; done >"$work/input"
+    run
+    awk '/^edition /{ edition = $2 } /^fuel /{ trip = $4 } /^END/{ print edition, trip }' "$work/output"
+}
+
+for day in "${days[@]}"; do
+    request POST /flights "{\"flight\":\"XX210\",\"day\":\"$day\",\"registration\":\"DAIAB\",\"origin\":\"FRA\",\"destination\":\"ARN\"}"
+done >"$work/input"
+run
+[ "$(grep -a -o 'HTTP/1.1 201' "$work/output" | wc -l)" = "$flights" ] || fail "the flights are not opened."
+
+# The changes of each flight that follow the editions.
+ask_changes() {
+    local n f edition
+    for ((n = 0; n < changes; n++)); do
+        for ((f = 0; f < flights; f++)); do
+            edition=$((editions[f] + n))
+            request PUT "/flights/XX210-${days[f]}/fuel/$edition" \
+                "{\"taxi\":200,\"takeoff\":9000,\"trip\":$(trip_of $((edition + 1)))}"
+        done
+    done >"$work/input"
+}
+
+# A whole run, and how many milliseconds it takes.
+editions=(1 1 1)
+ask_changes
+begun=$(date +%s%N)
+run
+whole=$((($(date +%s%N) - begun) / 1000000 + 1))
+
+acknowledged=()
+for ((f = 0; f < flights; f++)); do acknowledged[f]=$((1 + changes)); done
+answers=0
+unanswered=0
+killed=0
+
+for ((round = 0; ; round++)); do
+    # What the last round acknowledged is there, and at most one edition more.
+    editions=()
+    more=0
+    mapfile -t lines < <(kept)
+    [ "${#lines[@]}" = "$flights" ] || fail "round $round: ${#lines[@]} flights are in the store."
+    for ((f = 0; f < flights; f++)); do
+        read -r edition trip <<<"${lines[f]}"
+        [ "$edition" -ge "${acknowledged[f]}" ] ||
+            fail "round $round: edition ${acknowledged[f]} of flight $((f + 1)) was acknowledged, and $edition is in the store."
+        more=$((more + edition - acknowledged[f]))
+        [ "$edition" = 1 ] || [ "$trip" = "$(trip_of "$edition")" ] ||
+            fail "round $round: edition $edition of flight $((f + 1)) has the trip fuel $trip."
+        editions[f]=$edition
+    done
+    [ "$more" -le 1 ] || fail "round $round: $more editions are in the store that no answer names."
+    unanswered=$((unanswered + more))
+    [ "$round" -lt "$rounds" ] || break
+
+    ask_changes
+    "$program" desk "$store" "$aircraft" <"$work/input" >"$work/output" &
+    running=$!
+    moment=$((RANDOM % whole))
+    sleep "$((moment / 1000)).$(printf '%03d' $((moment % 1000)))"
+    kill -KILL "$running" 2>/dev/null || true
+    ended=0
+    wait "$running" 2>/dev/null || ended=$?
+    running=
+    [ "$ended" != 137 ] || killed=$((killed + 1))
+
+    ! grep -a -o 'HTTP/1.1 [0-9][0-9][0-9]' "$work/output" | grep -q -v ' 200$' ||
+        fail "round $round: a change was refused."
+    answered=$(grep -a -o '{"edition":[0-9]*}' "$work/output" | wc -l)
+    answers=$((answers + answered))
+    # The answers go from flight to flight.
+    for ((f = 0; f < flights; f++)); do
+        acknowledged[f]=$((editions[f] + (answered + flights - 1 - f) / flights))
+    done
+done
+
+[ "$answers" -gt 0 ] || fail "no change was answered before its program was killed."
+echo "$rounds runs, $killed of them killed before their end: $answers editions were acknowledged, and each was in the store afterwards; $unanswered were in the store whose answer had not come."
+if command -v sqlite3 >/dev/null; then
+    [ "$(sqlite3 "$store" 'pragma integrity_check')" = ok ] || fail "sqlite3 finds the store damaged."
+    sqlite3 "$store" 'select key, length(bytes) from flight'
+fi
