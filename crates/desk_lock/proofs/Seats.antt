@@ -19,7 +19,7 @@ use Rattle.desk_lock.specs.declared.views.View.TheVariants.{Spent, AtDesk, InRoo
 use Rattle.desk_lock.specs.declared.views.Origin.{Origin}
 use Rattle.desk_lock.specs.Views.{card, card_of, with_card}
 use Rattle.desk_lock.specs.Rule.{At, Slot, is_beyond, IsOrderly, IsHoused, Agrees, IsKept}
-use Rattle.desk_lock.specs.Steps.{Draws, GetsTurn, Looks, Advances}
+use Rattle.desk_lock.specs.Steps.{Draws, GetsTurn, Looks, Advances, Counts}
 use Rattle.desk_lock.proofs.Cards.{within, same_at, length_set, changed, draws as draw_runs, marks, advances as advance_runs, one_ticket}
 
 pub pair_again : (a b i : ℕ) → i < 2 → set (a ∷ b ∷ []) i (slice_index (a ∷ b ∷ []) i) ≡ a ∷ b ∷ []
@@ -198,6 +198,10 @@ module _ {M E G : Type 0} (setting_of : M → G) (follows : M → M → Type 0) 
         runs = kept.runs;
         housed = kept.housed;
       }
+
+  -- a seat looks at a word, and nothing changes
+  pub counts : (slots id i : ℕ) (me : Me (Option M) (View E (Origin M))) → i < 2 → Allows Rule slots id me i (λ n. n) (Counts (step slots i 0 0 none) me)
+  counts slots id i me lt s kept len at bound = (me.0, keeps, tt, look_miss s kept id me.0 i at lt, refl)
 
   at_home : (homes : Slot M) (m : M) → homes ≡ some (Some m) ∷ [] → get_elem? homes 0 ≡ some (some (Some m))
   at_home homes m e = rw e refl

@@ -82,6 +82,11 @@ module _ {M E : Type 0} (history_of : M → List E) where
   abbrev pub Advances : Step (Option M) → Seated M E → ℕ → Seated M E → Type 0
   Advances st me found w = AdvancesAt me.0 me.1 w
 
+module _ {M E : Type 0} where
+  -- a desk counts the tickets drawn, and nothing changes
+  abbrev pub Counts : Step (Option M) → Seated M E → ℕ → Seated M E → Type 0
+  Counts st me found w = w ≡ me
+
 module _ {M E G Q R : Type 0} (setting_of : M → G) (history_of : M → List E) (desk_of : E → ℕ)
     (fits : G → List E → ℕ → Q → E → R → Type 0) where
   -- the desk at the place k took its turn by the ticket t, after the entries that its view v had seen

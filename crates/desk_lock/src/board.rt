@@ -1,7 +1,7 @@
 //! The board of a room: two words and a slot, the rule that they keep, and the steps that a seat may take.
 
 ghost use Rattle.desk_lock.specs.Rule.{IsKept, first_view};
-ghost use Rattle.desk_lock.specs.Steps.{Draws, Looks, Advances, Clears, Opens, Shuts};
+ghost use Rattle.desk_lock.specs.Steps.{Draws, Looks, Advances, Counts, Clears, Opens, Shuts};
 ghost use Rattle.desk_lock.specs.Views.{with_one_more, next_desk, with_card_of};
 ghost use Rattle.desk_lock.specs.declared.views.View.TheVariants.{Spent as spent_view};
 
@@ -66,6 +66,13 @@ pub(crate) struct Advance<M> {
 
 impl<M: Machine> Play<Option<M>, View<M::Entry, Origin<M>>> for Advance<M> {
     ghost then = { Advances M.history };
+}
+
+/// A desk counts the tickets drawn.
+pub(crate) struct Count;
+
+impl<M: Machine> Play<Option<M>, View<M::Entry, Origin<M>>> for Count {
+    ghost then = { Counts };
 }
 
 /// The room takes the empty slot.

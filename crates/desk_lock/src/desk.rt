@@ -100,7 +100,7 @@ impl<M: Machine> Desk<M> {
             alloc,
             request,
         );
-        wake(&self.board, self.desks);
+        wake(&self.board, &mut self.seat, ticket);
         Ok(reply)
     }
 }

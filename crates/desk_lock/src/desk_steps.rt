@@ -5,10 +5,14 @@ ghost use Rattle.std.specs.Bool.{MatchBool};
 ghost use Rattle.desk_lock.specs.Views.{card, card_of, seen_of};
 ghost use Rattle.desk_lock.specs.Steps.{HasTurn, GetsTurn, IsTurnDone, HasServed, desk_seat, IsSeatOf};
 
-use crate::board::{Advance, Board, BoardSeat, Draw, Look, MACHINE, SERVING, TICKETS};
+use crate::board::{Advance, Board, BoardSeat, Count, Draw, Look, MACHINE, SERVING, TICKETS};
 use crate::machine::Machine;
 use std::alloc::Global;
+use std::hint;
 use std::sync::Wait;
+
+/// How often a desk looks before it parks. A turn takes a few microseconds, and to park and be woken takes longer.
+const LOOKS: u32 = 4_000;
 
 /// Draws the next ticket.
 pub(crate) fn draw<M: Machine>(board: &Board<M>, seat: &mut BoardSeat<M>, place: u32) -> u64
@@ -42,6 +46,27 @@ pub(crate) fn look<M: Machine>(
     board.shared.load::<Look<M>>(seat, SERVING)
 }
 
+/// Looks some times whether the ticket is served, since most turns are short.
+fn spin<M: Machine>(board: &Board<M>, seat: &mut BoardSeat<M>, place: u32, ticket: u64) -> bool
+    requires board { IsSeatOf board.now.shared.table_id seat.old.table_id }
+    requires drawn { seat.old.me
+        ≡ desk_seat board.now.shared.key place (card (Some ticket) false (seen_of seat.old.me.0)) [] }
+    requires below { ticket < board.now.shared.key.capacity }
+    ensures same { (seat.new.table_id ≡ seat.old.table_id) × (seat.new.id ≡ seat.old.id) }
+    ensures turn { MatchBool result
+        (GetsTurn M.setting M.follows M.history M.spare M.desk_of
+        board.now.shared.key place ticket (card_of seat.old.me.0) [] seat.new.me)
+        (seat.new.me ≡ seat.old.me) }
+{
+    for _ in 0..LOOKS {
+        if look(board, seat, place, ticket) == ticket {
+            return true;
+        }
+        hint::spin_loop();
+    }
+    false
+}
+
 /// Waits until the ticket is served: looks, and parks until a desk that ends its turn wakes it.
 pub(crate) fn wait<M: Machine, R: Wait>(
     rt: &R,
@@ -58,6 +83,9 @@ pub(crate) fn wait<M: Machine, R: Wait>(
     ensures turn { GetsTurn M.setting M.follows M.history M.spare M.desk_of
         board.now.shared.key place ticket (card_of seat.old.me.0) [] seat.new.me }
 {
+    if spin(board, seat, place, ticket) {
+        return;
+    }
     for _ in rt.forever() {
         let serving = look(board, seat, place, ticket);
         if serving == ticket {
@@ -135,11 +163,23 @@ pub(crate) fn serve<M: Machine>(
     reply
 }
 
-/// Wakes as many desks as there are, so that each that is parked looks again.
-pub(crate) fn wake<M: Machine>(board: &Board<M>, desks: u32)
-    requires { board.now.shared.table_id.words ≡ 2 }
+/// How many tickets are drawn.
+fn drawn<M: Machine>(board: &Board<M>, seat: &mut BoardSeat<M>) -> u64
+    requires board { IsSeatOf board.now.shared.table_id seat.old.table_id }
+    ensures same { (seat.new.table_id ≡ seat.old.table_id) × (seat.new.id ≡ seat.old.id) }
+    ensures unchanged { seat.new.me ≡ seat.old.me }
 {
-    for _ in 0..desks {
-        board.shared.wake_one(SERVING);
+    board.shared.load::<Count>(seat, TICKETS)
+}
+
+/// Wakes the desks that are parked, so that each of them looks again. There is none where no ticket is drawn behind the
+/// one that was served.
+pub(crate) fn wake<M: Machine>(board: &Board<M>, seat: &mut BoardSeat<M>, served: u64)
+    requires board { IsSeatOf board.now.shared.table_id seat.old.table_id }
+    ensures same { (seat.new.table_id ≡ seat.old.table_id) × (seat.new.id ≡ seat.old.id) }
+    ensures unchanged { seat.new.me ≡ seat.old.me }
+{
+    if drawn(board, seat).saturating_sub(served) > 1 {
+        board.shared.wake_all(SERVING);
     }
 }

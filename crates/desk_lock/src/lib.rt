@@ -21,6 +21,3 @@ pub use machine::Machine;
 pub use room::{Room, StartRefused};
 pub use tally::{Tally, TallyEntry};
 pub use views::Origin;
-
-#[cfg(test)]
-mod tests;

@@ -1,7 +1,7 @@
 ghost use Rattle.std.specs.Prelude.{◌≡◌, length};
 ghost use Rattle.desk_lock.specs.Rooms.{AreSameDesks};
 
-use super::*;
+use desk_lock::{Desk, Room, Tally, TallyEntry};
 use std::alloc::Global;
 use std::sync::Wait;
 use std::test::Fail;

@@ -1,7 +1,7 @@
 use Rattle.std.proofs.Common.{sym, ap, subst, ◌∙◌, length}
 use Rattle.desk_lock.specs.Rooms.{AreSameDesks}
 use Rattle.desk_lock.proofs.Keeping.{all_written}
-use Rattle.desk_lock.proofs.tests.entries_after.Goals as goal
+use Rattle.turn_bench.proofs.room_tests.entries_after.Goals as goal
 
 pub close-requires : goal.close-requires
 close-requires g c =
