@@ -4,7 +4,9 @@ pub mod Serving
 pub mod Statuses
 pub mod Outcomes
 pub mod Moments
-pub mod KeeperFaults
+pub mod Refusals
 pub mod Weights
 pub mod ServiceLaws
+pub mod PlansStay
+pub mod OneTask
 pub mod Shared

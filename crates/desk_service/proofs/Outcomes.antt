@@ -1,5 +1,7 @@
 -- what the calls of one request make of the history
-use Rattle.std.proofs.Common.{◌≡◌, ◌⊎◌, ℕ, true, false, List, [], ◌∷◌, ◌++◌, Option, Result, Ok, Err, refl, sym, ap, ◌∙◌, arith, append-nil, append_assoc, inl, inr}
+use Rattle.std.proofs.Common.{◌≡◌, ◌⊎◌, ◌+◌, ◌<◌, ◌≤◌, ℕ, true, false, List, [], ◌∷◌, ◌++◌, length, Option, Result, Ok, Err, refl, sym, ap, ◌∙◌, arith, append-nil, append_assoc, length-append, inl, inr}
+use Rattle.std.specs.List.{All}
+use Rattle.std.proofs.lemmas.List.Elements.{All-weaker}
 use Rattle.hold_limits.specs.Problem.{Problem}
 use Rattle.cert_checker.specs.Certified.{Certified}
 use Rattle.placer.specs.Answers.{IfBest, IsAnswerTo}
@@ -20,7 +22,7 @@ use Rattle.desk_service.specs.Places.{GoesOn}
 use Rattle.desk_service.specs.Turns.{Setting, Placed, placed, IsMade, Calls}
 use Rattle.desk_service.specs.Exchanges.{IsDue, IsFound, document_of, AnswersTurn, AnswersInstall, AnswersTask, LacksRoom, Answers, AnswersLate}
 use Rattle.desk_service.specs.Service.{Answered, Planned}
-use Rattle.desk_service.proofs.Places.{same_history, goes_on}
+use Rattle.desk_service.proofs.Places.{same_history, goes_on, placed_behind}
 use Rattle.desk_service.proofs.Turns as turns
 use Rattle.desk_service.proofs.Turns.{made_on}
 
@@ -152,11 +154,18 @@ module _ (s : Setting) (desk : ℕ) (full full' : Type 0) (key : List ℕ) (edit
   stands : GoesOn mid seen' → IsMade s desk seen' (Take key edition) taken (says.Task task)
   stands g = made_on s desk mid seen' g (Take key edition) taken (says.Task task) (turns.call_made s desk (Take key edition) (says.Task task) seen mid c)
 
-  outcome : (rest : List Placed) → GoesOn mid seen' → AnswersTask s desk seen' key edition budget task rest answer ⊎ (full' × LacksRoom task budget rest answer)
+  -- what is made after it stands later
+  later : (rest : List Placed) → GoesOn mid seen' → placed desk seen' ≡ placed desk mid ++ rest → All (λ (one : Placed). taken.0 < one.0) rest
+  later rest g own =
+      let long : length mid ≡ taken.0 + 1 = ap length c.grown ∙ length-append (turns.before s desk (Take key edition) (says.Task task) seen mid c) (c.entry ∷ []) in
+      All-weaker (λ (one : Placed). length mid ≤ one.0) (λ (one : Placed). taken.0 < one.0) (λ one after. omega (arith, long, after)) rest
+      (placed_behind (λ (entry : Entry). entry.desk) desk mid seen' rest g own)
+
+  outcome : (rest : List Placed) → GoesOn mid seen' → placed desk seen' ≡ placed desk mid ++ rest → AnswersTask s desk seen' key edition budget task rest answer ⊎ (full' × LacksRoom task budget rest answer)
       → Answers s desk seen' (Ok (asked.Plan key edition budget)) (taken ∷ rest) answer
       ⊎ (full' × AnswersLate s desk seen' (Ok (asked.Plan key edition budget)) (taken ∷ rest) answer)
-  outcome rest g (inl is) = inl (inr record { taken = taken; task = task; rest = rest; take = stands g; entries_are = refl; planned = is })
-  outcome rest g (inr (f, (found, none, told))) =
+  outcome rest g own (inl is) = inl (inr record { taken = taken; task = task; rest = rest; take = stands g; entries_are = refl; later = later rest g own; planned = is })
+  outcome rest g own (inr (f, (found, none, told))) =
       inr (f, (inr (taken, task, found.0, stands g, found.1, ap (λ (zs : List Placed). taken ∷ zs) none), told))
 
   pub plan_answered : (full → ⊥) → Planned s desk full' key edition budget task answer mid seen'
@@ -166,6 +175,6 @@ module _ (s : Setting) (desk : ℕ) (full full' : Type 0) (key : List ℕ) (edit
     on = goes_on seen mid seen' (turns.call_on s desk (Take key edition) (says.Task task) seen mid c) p.on;
     own = p.own ∙ (ap (λ (zs : List Placed). zs ++ p.rest) (turns.call_own s desk (Take key edition) (says.Task task) seen mid c)
         ∙ append_assoc (placed desk seen) (taken ∷ []) p.rest);
-    is = outcome p.rest p.on p.is;
+    is = outcome p.rest p.on p.own p.is;
     stuck = λ f. absurd (free f);
   }

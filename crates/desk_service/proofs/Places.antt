@@ -1,8 +1,9 @@
 -- entries with their places, in histories that go on
-use Rattle.std.proofs.Common.{◌≡◌, ◌≢◌, ◌==◌, ◌+◌, ℕ, List, [], ◌∷◌, ◌++◌, length, true, false, refl, sym, ap, ◌∙◌, arith, append-nil, append_assoc}
+use Rattle.std.proofs.Common.{◌≡◌, ◌≢◌, ◌==◌, ◌+◌, ◌≤◌, ℕ, List, [], ◌∷◌, ◌++◌, length, true, false, refl, sym, ap, ◌∙◌, subst, arith, append-nil, append_assoc}
 use Rattle.std.specs.List.{All}
 use Rattle.std.proofs.lemmas.Bool.Decides.{nat_tests}
-use Rattle.std.proofs.lemmas.List.Elements.{All-head, All-tail}
+use Rattle.std.proofs.lemmas.List.{append_cancel_left}
+use Rattle.std.proofs.lemmas.List.Elements.{All-head, All-tail, All-nil, All-cons}
 use Rattle.desk_service.specs.Places.{Stands, GoesOn, placed_if, placed_from, placed}
 
 module _ {E : Type 0} where
@@ -47,3 +48,21 @@ module _ {E : Type 0} where
     -- an entry of the desk adds itself
     pub placed_own : (xs : List E) (e : E) → desk_of e ≡ n → placed desk_of n (xs ++ e ∷ []) ≡ placed desk_of n xs ++ (length xs, e) ∷ []
     placed_own xs e by = placed-append 0 xs (e ∷ []) ∙ ap (λ zs. placed desk_of n xs ++ zs) (placed_single (0 + length xs) e by ∙ ap (λ k. (k, e) ∷ []) (let e : 0 + length xs ≡ length xs = omega arith in e))
+
+    -- the places rise from the first one on
+    from_first : (k least : ℕ) (xs : List E) → least ≤ k → All (λ (one : ℕ × E). least ≤ one.0) (placed_from desk_of n k xs)
+    unfolding placed_from
+    from_first k least [] h = All-nil _
+    from_first k least (x ∷ xs) h = elim (desk_of x == n) as (λ b. All (λ (one : ℕ × E). least ≤ one.0) (placed_if b k x ++ placed_from desk_of n (k + 1) xs)) [
+      | true ↦ All-cons (λ (one : ℕ × E). least ≤ one.0) (k, x) (placed_from desk_of n (k + 1) xs) h (from_first (k + 1) least xs (omega (arith, h)))
+      | false ↦ from_first (k + 1) least xs (omega (arith, h))
+    ]
+
+    -- what a longer history adds to the entries of a desk stands behind the shorter one
+    pub placed_behind : (xs ys : List E) (more : List (ℕ × E)) → GoesOn xs ys → placed desk_of n ys ≡ placed desk_of n xs ++ more
+        → All (λ (one : ℕ × E). length xs ≤ one.0) more
+    placed_behind xs ys more g own =
+        let here = placed-append 0 xs g.rest in
+        let same : placed_from desk_of n (0 + length xs) g.rest ≡ more = append_cancel_left (placed desk_of n xs) (placed_from desk_of n (0 + length xs) g.rest) more
+        (sym here ∙ (ap (placed desk_of n) (sym g.is) ∙ own)) in
+        subst (λ (ones : List (ℕ × E)). All (λ (one : ℕ × E). length xs ≤ one.0) ones) same (from_first (0 + length xs) (length xs) g.rest (omega arith))

@@ -12,7 +12,7 @@ use Rattle.desk_service.specs.Service.{entries_of}
 use Rattle.desk_service.specs.Alone.{failures}
 use Rattle.desk_service.specs.AloneLaws.{failures-append}
 use Rattle.desk_service.specs.Laws.{StaysService, MakesTwoAtMost, MakesFewerWithoutRoom, FailsWithTheKeeper, has_status, unplaced}
-use Rattle.desk_service.proofs.KeeperFaults.{no_way}
+use Rattle.desk_service.proofs.Refusals.{no_way}
 use Rattle.desk_service.proofs.Serving.{exchange_on, lacking_on}
 use Rattle.desk_service.proofs.Weights.{served_weighs, late_weighs}
 

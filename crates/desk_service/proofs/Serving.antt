@@ -47,6 +47,7 @@ module _ (s : Setting) (desk : ℕ) (h h' : List Entry) (g : GoesOn h h') where
     rest = a.rest;
     take = made_on s desk h h' g (Take key edition) a.taken (says.Task a.task) a.take;
     entries_are = a.entries_are;
+    later = a.later;
     planned = task_on key edition budget a.task a.rest answer a.planned;
   }
 

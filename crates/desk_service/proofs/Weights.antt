@@ -24,7 +24,7 @@ use Rattle.desk_service.specs.Turns.{Setting, Placed, IsMade}
 use Rattle.desk_service.specs.Exchanges.{IsDue, AnswersTurn, AnswersInstallIf, AnswersTask, AnswersTaken, Answers, AnswersLate, LacksEntry, Exchange, IsRead, IsServed, IsLate, is_installed}
 use Rattle.desk_service.specs.Alone.{failures, is_failure}
 use Rattle.desk_service.specs.Laws.{unplaced}
-use Rattle.desk_service.proofs.KeeperFaults.{failed_by_reply, no_way}
+use Rattle.desk_service.proofs.Refusals.{failed_by_reply, no_way}
 
 -- the status is not 507, and it is 503 only where P
 pub record Tells (answer : Answer) (P : Type 0) : Type 0 where

@@ -1,5 +1,5 @@
 -- exchanges: what is asked of a desk, the entries that it makes for it, and what it answers
-use Rattle.std.specs.Prelude.{◌≡◌, ◌⊎◌, ℕ, Bool, true, false, List, [], ◌∷◌, Option, Some, Result, Ok, Err}
+use Rattle.std.specs.Prelude.{◌≡◌, ◌⊎◌, ◌<◌, ℕ, Bool, true, false, List, [], ◌∷◌, All, Option, Some, Result, Ok, Err}
 use Rattle.hold_limits.specs.Problem.{Problem}
 use Rattle.cert_checker.specs.Certified.{Certified}
 use Rattle.placer.specs.Answers.{IfBest, IsAnswerTo}
@@ -91,13 +91,14 @@ AnswersTask s desk history key edition budget task rest answer =
     ⊎ (((rest ≡ []) × TellsNoPlan task budget answer)
     ⊎ InstallsPlan s desk history key edition budget task rest answer)
 
--- a request for a plan whose task was taken
+-- a request for a plan whose task was taken; its other entries stand later
 pub record AnswersTaken (s : Setting) (desk : ℕ) (history : List Entry) (key : List ℕ) (edition budget : ℕ) (entries : List Placed) (answer : Answer) : Type 0 where
   pub taken : Placed
   pub task : Problem
   pub rest : List Placed
   pub take : IsTaken s desk history key edition taken task
   pub entries_are : entries ≡ taken ∷ rest
+  pub later : All (λ (one : Placed). taken.0 < one.0) rest
   pub planned : AnswersTask s desk history key edition budget task rest answer
 
 -- a request for a plan: the task was not given, which is answered as any other reply, or it was taken

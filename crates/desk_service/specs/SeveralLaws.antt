@@ -1,5 +1,5 @@
 -- moments of an office that several desks have together follow one another
-use Rattle.std.proofs.Common.{◌+◌, ◌<◌, ◌-◌, ◌^◌, [], ◌++◌, refl, sym, ap, ◌∙◌, arith, append-nil, append_assoc, length-append}
+use Rattle.std.proofs.Common.{◌<◌, ◌-◌, ◌^◌, [], ◌++◌, refl, sym, ap, ◌∙◌, arith, append-nil, append_assoc, length-append}
 use Rattle.desk_service.specs.Alone.{Counted}
 use Rattle.desk_service.specs.AloneLaws.{failures-append}
 use Rattle.desk_service.specs.Several.{IsAfter, room_for}
