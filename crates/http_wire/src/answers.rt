@@ -9,6 +9,9 @@ use http::StatusCode;
 use itoa::Buffer;
 use load_io::{Failed, Link, send_all};
 
+/// So many bytes of an answer are written at once. Only a longer body follows its head by itself.
+const PIECE: usize = 4096;
+
 /// Writes an answer. A JSON body is announced as `application/json`, another as `text/plain`. `last` announces that
 /// the connection ends after this answer. If the link fails, a proper prefix of the answer was written, and nothing
 /// more is.
@@ -33,13 +36,18 @@ pub fn answer<L: Link>(
     ensures uncounted { OnOk result (L.write_faults link.new ≡ L.write_faults link.old) }
     ensures counted { OnErr result (Rose (L.write_faults link.old) (L.write_faults link.new)) }
 {
-    let head = head_of(status, json, last, body.len());
-    send_all(link, head.as_slice())?;
-    send_all(link, body)
+    let mut piece = head_of(status, json, last, body.len());
+    match piece.try_extend_from_slice(body) {
+        Ok(()) => send_all(link, piece.as_slice()),
+        Err(_) => {
+            send_all(link, piece.as_slice())?;
+            send_all(link, body)
+        }
+    }
 }
 
-/// The head of an answer with a body of this length.
-fn head_of(status: u16, json: bool, last: bool, size: usize) -> ArrayVec<u8, 256>
+/// The head of an answer with a body of this length, in a piece that a short body fits into too.
+fn head_of(status: u16, json: bool, last: bool, size: usize) -> ArrayVec<u8, PIECE>
     requires known { IsTrue (is_answered status) }
     ensures { result.items ≡ head_bytes status json last size }
 {
@@ -58,8 +66,8 @@ fn head_of(status: u16, json: bool, last: bool, size: usize) -> ArrayVec<u8, 256
 }
 
 /// Appends the text to a head that has room for it.
-fn push(head: &mut ArrayVec<u8, 256>, text: &[u8])
-    requires fits { length head.old.items + length text.now ≤ 256 }
+fn push(head: &mut ArrayVec<u8, PIECE>, text: &[u8])
+    requires fits { length head.old.items + length text.now ≤ 4096 }
     ensures { head.new.items ≡ head.old.items ++ text.now }
 {
     match head.try_extend_from_slice(text) {
