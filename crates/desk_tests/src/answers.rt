@@ -1,4 +1,4 @@
-// Answers to replies and refusals.
+// Answers to replies and refusals, each as a text: its status, whether it is JSON, and its body.
 use arrayvec::ArrayVec;
 use desk_answers::{Document, PlainError, answer_to};
 use desk_base::NoMemory;
@@ -8,46 +8,73 @@ use keeper::Bytes;
 use last_minute::LmcFault;
 use mass_units::{Kg, Ticks};
 use std::alloc::Global;
+use std::str;
 use std::test::Fail;
 use trim::{Rule, Rules, TrimFault};
 
-/// All errors in one word, with their statuses.
-const ERRORS: [(PlainError, u16, &str); 16] = [
-    (PlainError::NoRoute, 404, "{\"error\":\"no route\"}"),
-    (PlainError::Method, 405, "{\"error\":\"method\"}"),
-    (PlainError::Edition, 400, "{\"error\":\"edition\"}"),
-    (PlainError::Body, 400, "{\"error\":\"body\"}"),
-    (PlainError::Full, 507, "{\"error\":\"full\"}"),
-    (PlainError::Exists, 422, "{\"error\":\"exists\"}"),
-    (PlainError::NoAircraft, 422, "{\"error\":\"no aircraft\"}"),
-    (PlainError::OfficeFull, 422, "{\"error\":\"office full\"}"),
-    (PlainError::NoFlight, 404, "{\"error\":\"no flight\"}"),
-    (PlainError::Gone, 422, "{\"error\":\"gone\"}"),
-    (PlainError::NotReleased, 422, "{\"error\":\"not released\"}"),
-    (PlainError::NoPlan, 422, "{\"error\":\"no plan\"}"),
-    (PlainError::OtherTask, 422, "{\"error\":\"other task\"}"),
-    (PlainError::Spent, 422, "{\"error\":\"spent\"}"),
-    (PlainError::Keeper, 503, "{\"error\":\"keeper\"}"),
-    (PlainError::Memory, 500, "{\"error\":\"memory\"}"),
+/// All errors in one word.
+const ERRORS: [PlainError; 16] = [
+    PlainError::NoRoute,
+    PlainError::Method,
+    PlainError::Edition,
+    PlainError::Body,
+    PlainError::Full,
+    PlainError::Exists,
+    PlainError::NoAircraft,
+    PlainError::OfficeFull,
+    PlainError::NoFlight,
+    PlainError::Gone,
+    PlainError::NotReleased,
+    PlainError::NoPlan,
+    PlainError::OtherTask,
+    PlainError::Spent,
+    PlainError::Keeper,
+    PlainError::Memory,
 ];
+
+/// Their statuses and bodies.
+const ERROR_ANSWERS: &str = r#"404 {"error":"no route"}
+405 {"error":"method"}
+400 {"error":"edition"}
+400 {"error":"body"}
+507 {"error":"full"}
+422 {"error":"exists"}
+422 {"error":"no aircraft"}
+422 {"error":"office full"}
+404 {"error":"no flight"}
+422 {"error":"gone"}
+422 {"error":"not released"}
+422 {"error":"no plan"}
+422 {"error":"other task"}
+422 {"error":"spent"}
+503 {"error":"keeper"}
+500 {"error":"memory"}
+"#;
 
 #[test]
 fn errors_have_their_words(rt: HostRuntime) -> Result<(), Fail> {
-    for (error, status, body) in ERRORS {
-        assert_eq!(rt; error.status(), status, "at {}", body);
-        assert_eq!(rt; error.body(), body.as_bytes());
+    let mut text = String::new(rt.alloc());
+    for error in ERRORS {
+        writeln!(text, "{} {}", error.status(), str::from_utf8(error.body())?)?;
     }
+    assert_eq!(rt; text.as_str(), ERROR_ANSWERS);
     Ok(())
 }
 
-/// Whether the reply is answered with this status and this JSON.
-fn is_json(alloc: Global, reply: Reply, status: u16, body: &str) -> bool {
-    match answer_to(alloc, Document::Loadsheet, reply) {
-        Ok(answer) => {
-            answer.json && answer.status == status && answer.body.as_slice() == body.as_bytes()
-        }
-        Err(_) => false,
+/// Fails where the reply has another answer. The answer is a status, whether its body is JSON, and the body.
+fn check(alloc: Global, reply: Reply, due: &str) -> Result<(), Fail> {
+    let answer = answer_to(alloc, Document::Loadsheet, reply)?;
+    let body = str::from_utf8(answer.body.as_slice())?;
+    let text = format!(in alloc; "{} {} {body}", answer.status, answer.json)?;
+    if text.as_str() == due {
+        return Ok(());
     }
+    Err(Fail::new(format_args!("{text} in place of {due}")))
+}
+
+/// As above, of a refusal.
+fn check_refusal(alloc: Global, refusal: Refusal, due: &str) -> Result<(), Fail> {
+    check(alloc, Reply::Refused(refusal), due)
 }
 
 fn rules() -> Rules {
@@ -57,63 +84,66 @@ fn rules() -> Rules {
     rules
 }
 
-/// Refusals that carry a value, each with its answer.
-fn refusals() -> [(Refusal, u16, &'static str); 8] {
-    [
-        (Refusal::Stale(7), 409, "{\"error\":\"stale\",\"newest\":7}"),
-        (Refusal::Ahead(3), 409, "{\"error\":\"ahead\",\"newest\":3}"),
-        (
-            Refusal::Broken(rules()),
-            422,
-            "{\"error\":\"broken\",\"rules\":[\"TAKE OFF\",\"LATERAL\"]}",
-        ),
-        (
-            Refusal::Late(LmcFault::NotThere),
-            422,
-            "{\"error\":\"lmc\",\"reason\":2}",
-        ),
-        (
-            Refusal::Late(LmcFault::MassOver(Kg(501))),
-            422,
-            "{\"error\":\"lmc\",\"reason\":4,\"value\":501}",
-        ),
-        (
-            Refusal::Late(LmcFault::IndexOver(Ticks(500_001))),
-            422,
-            "{\"error\":\"lmc\",\"reason\":5,\"value\":500001}",
-        ),
-        (
-            Refusal::Late(LmcFault::Breaks(rules())),
-            422,
-            "{\"error\":\"lmc\",\"reason\":6,\"rules\":[\"TAKE OFF\",\"LATERAL\"]}",
-        ),
-        (
-            Refusal::Trim(TrimFault::NoWindow(2)),
-            422,
-            "{\"error\":\"trim\",\"reason\":4,\"value\":2}",
-        ),
-    ]
+#[test]
+fn refusals_have_their_values(rt: HostRuntime) -> Result<(), Fail> {
+    let alloc = rt.alloc();
+    check_refusal(
+        alloc,
+        Refusal::Stale(7),
+        r#"409 true {"error":"stale","newest":7}"#,
+    )?;
+    check_refusal(
+        alloc,
+        Refusal::Ahead(3),
+        r#"409 true {"error":"ahead","newest":3}"#,
+    )?;
+    check_refusal(
+        alloc,
+        Refusal::Broken(rules()),
+        r#"422 true {"error":"broken","rules":["TAKE OFF","LATERAL"]}"#,
+    )?;
+    check_refusal(
+        alloc,
+        Refusal::Trim(TrimFault::NoWindow(2)),
+        r#"422 true {"error":"trim","reason":4,"value":2}"#,
+    )
 }
 
 #[test]
-fn refusals_have_their_values(rt: HostRuntime) -> Result<(), Fail> {
-    for (refusal, status, body) in refusals() {
-        let reply = Reply::Refused(refusal);
-        assert!(rt; is_json(rt.alloc(), reply, status, body), "{body}");
-    }
-    Ok(())
+fn refusals_of_late_changes_have_their_values(rt: HostRuntime) -> Result<(), Fail> {
+    let alloc = rt.alloc();
+    check_refusal(
+        alloc,
+        Refusal::Late(LmcFault::NotThere),
+        r#"422 true {"error":"lmc","reason":2}"#,
+    )?;
+    check_refusal(
+        alloc,
+        Refusal::Late(LmcFault::MassOver(Kg(501))),
+        r#"422 true {"error":"lmc","reason":4,"value":501}"#,
+    )?;
+    check_refusal(
+        alloc,
+        Refusal::Late(LmcFault::IndexOver(Ticks(500_001))),
+        r#"422 true {"error":"lmc","reason":5,"value":500001}"#,
+    )?;
+    check_refusal(
+        alloc,
+        Refusal::Late(LmcFault::Breaks(rules())),
+        r#"422 true {"error":"lmc","reason":6,"rules":["TAKE OFF","LATERAL"]}"#,
+    )
 }
 
 #[test]
 fn replies_are_answered(rt: HostRuntime) -> Result<(), Fail> {
+    let alloc = rt.alloc();
     let key = FlightKey::read(b"XX210-12").ok_or(NoMemory)?;
-    let opened = "{\"edition\":1,\"key\":\"XX210-12\"}";
-    assert!(rt; is_json(rt.alloc(), Reply::Opened(key), 201, opened));
-    assert!(rt; is_json(rt.alloc(), Reply::Edition(12), 200, "{\"edition\":12}"));
-    let row = Bytes::from(vec![in rt.alloc(); 65u8; 3]?);
-    let text = answer_to(rt.alloc(), Document::Loadsheet, Reply::Row(row));
-    let shown = text.is_ok_and(|answer| !answer.json
-        && answer.body.as_slice() == b"AAA".as_slice());
-    assert!(rt; shown);
-    Ok(())
+    check(
+        alloc,
+        Reply::Opened(key),
+        r#"201 true {"edition":1,"key":"XX210-12"}"#,
+    )?;
+    check(alloc, Reply::Edition(12), r#"200 true {"edition":12}"#)?;
+    let row = Bytes::from(b"AAA".to_vec(alloc)?);
+    check(alloc, Reply::Row(row), "200 false AAA")
 }

@@ -8,7 +8,7 @@ use flight_state::{Day, FlightKey, FlightName, FlightState, Leg, Lmc, Lmcs, Stag
 use hold_limits::Path;
 use mass_units::{Kg, Ticks};
 use payload::Cabin;
-use std::alloc::Global;
+use std::alloc::{AllocError, Global};
 use std::test::Fail;
 use trim::{Dry, Figures, Fuel, Items, LooseList, Regulated};
 
@@ -45,6 +45,7 @@ fn leg() -> Result<Leg, NoMemory> {
     })
 }
 
+/// A line of the history: an act about the flight that was accepted.
 fn push(entries: &mut Vec<Entry>, act: Act) -> Result<(), NoMemory> {
     let entry = Entry {
         desk: 1,
@@ -54,6 +55,54 @@ fn push(entries: &mut Vec<Entry>, act: Act) -> Result<(), NoMemory> {
     };
     entries.push(entry)?;
     Ok(())
+}
+
+fn fuel() -> FigurePart {
+    FigurePart::Fuel(Fuel {
+        taxi: Kg(200),
+        take_off: Kg(9_000),
+        trip: Kg(6_000),
+    })
+}
+
+/// Three adults more in the second zone.
+fn three_adults() -> Lmc {
+    Lmc::Cabin {
+        zone: 2,
+        adults: 3,
+        children: 0,
+        infants: 0,
+    }
+}
+
+/// The flight gets its fuel and a plan, and is released, changed late, and released again.
+fn history(alloc: Global) -> Result<Vec<Entry>, NoMemory> {
+    let mut entries = Vec::new(alloc);
+    push(
+        &mut entries,
+        Act::Set {
+            edition: 4,
+            part: fuel(),
+        },
+    )?;
+    push(
+        &mut entries,
+        Act::Install {
+            edition: 5,
+            path: Path::new(),
+            same: true,
+        },
+    )?;
+    push(&mut entries, Act::Release { edition: 5 })?;
+    push(
+        &mut entries,
+        Act::Late {
+            edition: 5,
+            lmc: three_adults(),
+        },
+    )?;
+    push(&mut entries, Act::Release { edition: 6 })?;
+    Ok(entries)
 }
 
 /// A flight at edition 4 that was released twice.
@@ -71,51 +120,35 @@ fn begun(alloc: Global) -> Result<FlightState, NoMemory>
     })
 }
 
+/// The standing of a flight, in a line.
+fn line_of(alloc: Global, s: &FlightState) -> Result<String, AllocError> {
+    format!(in alloc;
+        "edition {} {:?} plan {} releases {} fuel {} zones {} changes {}",
+        s.edition,
+        s.stage,
+        s.plan.is_some(),
+        s.releases,
+        s.base.fuel.take_off.0,
+        s.base.cabin.counts().len(),
+        s.lmcs.as_slice().len()
+    )
+}
+
+/// The standing of the flight after these entries.
+fn standing(alloc: Global, entries: &[Entry]) -> Result<String, Fail> {
+    let opened = begun(alloc)?;
+    match &standing_after(alloc, &opened, entries)? {
+        Some(standing) => Ok(line_of(alloc, standing)?),
+        None => Err(Fail::new("the numbers are within their types")),
+    }
+}
+
 #[test]
 fn a_flight_is_as_its_acts_leave_it(rt: HostRuntime) -> Result<(), Fail> {
-    let alloc = rt.alloc();
-    let opened = begun(alloc)?;
-    let mut entries = Vec::new(alloc);
-    let fuel = Fuel {
-        taxi: Kg(200),
-        take_off: Kg(9_000),
-        trip: Kg(6_000),
-    };
-    push(
-        &mut entries,
-        Act::Set {
-            edition: 4,
-            part: FigurePart::Fuel(fuel),
-        },
-    )?;
-    push(
-        &mut entries,
-        Act::Install {
-            edition: 5,
-            path: Path::new(),
-            same: true,
-        },
-    )?;
-    push(&mut entries, Act::Release { edition: 5 })?;
-    push(
-        &mut entries,
-        Act::Late {
-            edition: 5,
-            lmc: Lmc::Cabin {
-                zone: 2,
-                adults: 3,
-                children: 0,
-                infants: 0,
-            },
-        },
-    )?;
-    push(&mut entries, Act::Release { edition: 6 })?;
-    let standing = standing_after(alloc, &opened, &entries)?.ok_or(NoMemory)?;
-    assert_eq!(rt; standing.edition, 6);
-    assert!(rt; standing.stage == Stage::Released && standing.plan.is_some());
-    assert_eq!(rt; standing.releases, 3);
-    assert_eq!(rt; standing.base.fuel.take_off.0, 9_000);
-    assert!(rt; standing.base.cabin.counts().is_empty());
-    assert_eq!(rt; standing.lmcs.as_slice().len(), 1);
+    let line = standing(rt.alloc(), &history(rt.alloc())?)?;
+    assert_eq!(rt;
+        line.as_str(),
+        "edition 6 Released plan true releases 3 fuel 9000 zones 0 changes 1"
+    );
     Ok(())
 }

@@ -4,6 +4,7 @@ use desk_requests::{Asked, read_request};
 use desk_routes::DeskRouter;
 use flight_history::{FigurePart, Request, What};
 use std::alloc::Global;
+use std::str;
 use std::test::Fail;
 
 /// A request of each route: its method, its target, a word for what it asks, and its body. A `~` stands for the end of a
@@ -139,43 +140,48 @@ fn the_first_reason_is_named(rt: HostRuntime) -> Result<(), Fail> {
     Ok(())
 }
 
+/// The parts of a plan or a release that a request asks for: its key, its edition, and the budget of a plan.
+fn parts_of(alloc: Global, asked: &Asked) -> Result<String, Fail> {
+    match asked {
+        Asked::Plan {
+            key,
+            edition,
+            budget,
+        } => {
+            let key = str::from_utf8(key.bytes())?;
+            Ok(format!(in alloc; "plan {key} {edition} {budget}")?)
+        }
+        Asked::Entry(Request::Release { key, edition }) => {
+            let key = str::from_utf8(key.bytes())?;
+            Ok(format!(in alloc; "release {key} {edition}")?)
+        }
+        Asked::Entry(_) => Err(Fail::new("the request asks for something else")),
+    }
+}
+
+/// These parts of a request by `POST`.
+fn parts_posted(alloc: Global, target: &str, body: &str) -> Result<String, Fail> {
+    let router = DeskRouter::new(alloc)?;
+    let (target, body) = (target.as_bytes(), body.as_bytes());
+    parts_of(alloc, &read_request(alloc, &router, b"POST", target, body)?)
+}
+
 #[test]
 fn the_target_and_the_body_tell_the_parts(rt: HostRuntime) -> Result<(), Fail> {
-    let router = DeskRouter::new(rt.alloc())?;
-    let plan = read_request(
-        rt.alloc(),
-        &router,
-        b"POST",
-        b"/flights/XX210-12/plan/7",
-        br#"{"budget":500}"#,
-    )?;
-    let first = b"XX210-12".as_slice();
-    assert!(rt;
-        matches!(
-            &plan,
-            Asked::Plan {
-                key,
-                edition: 7,
-                budget: 500
-            } if key.bytes() == first
-        )
-    );
-    let release = read_request(
-        rt.alloc(),
-        &router,
-        b"POST",
-        b"/flights/YY7A-31/release/4294967295",
-        b"",
-    )?;
-    let second = b"YY7A-31".as_slice();
-    assert!(rt;
-        matches!(
-            &release,
-            Asked::Entry(Request::Release {
-                key,
-                edition: 4_294_967_295
-            }) if key.bytes() == second
-        )
-    );
+    let rows = [
+        (
+            "/flights/XX210-12/plan/7",
+            r#"{"budget":500}"#,
+            "plan XX210-12 7 500",
+        ),
+        (
+            "/flights/YY7A-31/release/4294967295",
+            "",
+            "release YY7A-31 4294967295",
+        ),
+    ];
+    for (target, body, due) in rows {
+        assert_eq!(rt; parts_posted(rt.alloc(), target, body)?.as_str(), due);
+    }
     Ok(())
 }
