@@ -1,33 +1,51 @@
 // Centres of gravity on a chord.
+use crate::pass;
+use case_rows::{Subject, at, numbers, unsigned_at};
 use mass_units::{Chord, Kg, Ticks, mac_hundredths};
+use std::alloc::Global;
+use std::test::Fail;
 
-const CHORD: Chord = Chord {
-    k: Ticks(5_000_000),
-    c: 1000,
-    reference_mm: 18850,
-    lemac_mm: 17800,
-    mac_mm: 4190,
-};
+/// The chord of the first five numbers: its index, its constant, its reference, its leading edge and its length.
+fn chord_of(numbers: &[i64]) -> Chord {
+    Chord {
+        k: Ticks(at(numbers, 0)),
+        c: unsigned_at(numbers, 1),
+        reference_mm: i32::try_from(at(numbers, 2)).unwrap_or(0),
+        lemac_mm: i32::try_from(at(numbers, 3)).unwrap_or(0),
+        mac_mm: unsigned_at(numbers, 4),
+    }
+}
+
+/// The centre of gravity, in hundredths of a percent, of a chord, an index and a mass.
+struct Centre;
+
+impl Subject for Centre {
+    fn said(&self, alloc: Global, case: &str) -> Result<String, Fail> {
+        let numbers = numbers(alloc, case)?;
+        let chord = chord_of(numbers.as_slice());
+        let index = Ticks(at(numbers.as_slice(), 5));
+        let mass = unsigned_at(numbers.as_slice(), 6);
+        if mass == 0 || chord.mac_mm == 0 {
+            return Err(Fail::new("a mass and a length"));
+        }
+        Ok(format!(in alloc; "{}", mac_hundredths(index, Kg(mass), &chord))?)
+    }
+}
 
 #[test]
 fn a_loadsheet_has_its_three_centres(rt: HostRuntime) {
-    assert_eq!(rt; mac_hundredths(Ticks(5_166_000), Kg(54_580), &CHORD), 2579);
-    assert_eq!(rt; mac_hundredths(Ticks(5_045_000), Kg(63_580), &CHORD), 2523);
-    assert_eq!(rt; mac_hundredths(Ticks(5_165_000), Kg(57_580), &CHORD), 2574);
+    let rows = "2579|5000000 1000 18850 17800 4190 5166000 54580
+2523|5000000 1000 18850 17800 4190 5045000 63580
+2574|5000000 1000 18850 17800 4190 5165000 57580";
+    pass(&rt, rt.alloc(), &Centre, rows);
 }
 
 #[test]
 fn halves_go_away_from_zero(rt: HostRuntime) {
-    let chord = Chord {
-        k: Ticks(0),
-        c: 1,
-        reference_mm: 0,
-        lemac_mm: 0,
-        mac_mm: 200,
-    };
-    assert_eq!(rt; mac_hundredths(Ticks(5), Kg(1), &chord), 3);
-    assert_eq!(rt; mac_hundredths(Ticks(-5), Kg(1), &chord), -3);
-    assert_eq!(rt; mac_hundredths(Ticks(4), Kg(1), &chord), 2);
-    assert_eq!(rt; mac_hundredths(Ticks(0), Kg(1), &chord), 0);
-    assert_eq!(rt; mac_hundredths(Ticks(i64::MIN), Kg(1), &CHORD) < 0, true);
+    let rows = "3|0 1 0 0 200 5 1
+-3|0 1 0 0 200 -5 1
+2|0 1 0 0 200 4 1
+0|0 1 0 0 200 0 1
+-220128210903574599117|5000000 1000 18850 17800 4190 -9223372036854775808 1";
+    pass(&rt, rt.alloc(), &Centre, rows);
 }

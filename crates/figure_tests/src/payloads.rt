@@ -1,4 +1,6 @@
-use mass_units::{Kg, Ticks};
+use crate::pass;
+use case_rows::{Subject, at, numbers, unsigned_at};
+use mass_units::Kg;
 use payload::{Averages, Cabin, Load, PayFault, Zone, ZoneCount, cabin_load, loose_mass};
 use std::alloc::{AllocError, Global};
 use std::test::Fail;
@@ -21,120 +23,28 @@ const AVERAGES: Averages = Averages {
     bag: Kg(15),
 };
 
-const NOBODY: ZoneCount = ZoneCount {
-    adults: 0,
-    children: 0,
-    infants: 0,
-};
-
-#[test]
-fn loads_and_refusals_of_a_cabin(rt: HostRuntime) -> Result<(), Fail> {
-    let cases = [
-        (
-            count(50, 4, 2),
-            count(70, 6, 1),
-            Ok(load(10_460, -2_000, 120, 10, 3)),
-        ),
-        (NOBODY, NOBODY, Ok(load(0, 0, 0, 0, 0))),
-        // Each zone at its seats, and one passenger beyond.
-        (
-            count(56, 4, 0),
-            NOBODY,
-            Ok(load(4_844, -3_390_800, 56, 4, 0)),
-        ),
-        (count(57, 4, 0), NOBODY, Err(PayFault::ZoneFull(1, 60))),
-        (count(56, 5, 0), NOBODY, Err(PayFault::ZoneFull(1, 60))),
-        (
-            NOBODY,
-            count(85, 5, 0),
-            Ok(load(7_315, 3_657_500, 85, 5, 0)),
-        ),
-        (NOBODY, count(85, 6, 0), Err(PayFault::ZoneFull(2, 90))),
-        (
-            count(61, 0, 0),
-            count(91, 0, 0),
-            Err(PayFault::ZoneFull(1, 60)),
-        ),
-        // As many infants as adults, and one beyond, over both zones.
-        (
-            count(60, 0, 60),
-            NOBODY,
-            Ok(load(5_640, -3_948_000, 60, 0, 60)),
-        ),
-        (count(60, 0, 61), NOBODY, Err(PayFault::InfantsOverAdults)),
-        (
-            count(0, 0, 5),
-            count(5, 0, 0),
-            Ok(load(470, 175_000, 5, 0, 5)),
-        ),
-        (
-            count(0, 9, 6),
-            count(5, 0, 0),
-            Err(PayFault::InfantsOverAdults),
-        ),
-        (count(61, 0, 62), NOBODY, Err(PayFault::ZoneFull(1, 60))),
-    ];
-    for (i, (first, second, want)) in cases.into_iter().enumerate() {
-        let got = load_of_two(rt.alloc(), first, second)?;
-        assert_eq!(rt; got, want, "in case {i}");
+/// The adults, the children and the infants of a zone.
+fn count_of(numbers: &[i64]) -> ZoneCount {
+    ZoneCount {
+        adults: u16::try_from(at(numbers, 0)).unwrap_or(0),
+        children: u16::try_from(at(numbers, 1)).unwrap_or(0),
+        infants: u16::try_from(at(numbers, 2)).unwrap_or(0),
     }
-    Ok(())
 }
 
-#[test]
-fn a_zone_that_the_aircraft_does_not_have(rt: HostRuntime) -> Result<(), Fail> {
-    let overfull = count(61, 0, 62);
-    let three = Cabin::from(vec![in rt.alloc(); overfull, NOBODY, NOBODY]?);
-    assert_eq!(rt;
-        cabin_load(&three, &ZONES, &AVERAGES),
-        Err(PayFault::ZoneUnknown(3))
-    );
-    let four = Cabin::from(vec![in rt.alloc(); NOBODY, NOBODY, NOBODY, NOBODY]?);
-    assert_eq!(rt;
-        cabin_load(&four, &ZONES, &AVERAGES),
-        Err(PayFault::ZoneUnknown(3))
-    );
-    let one = Cabin::from(vec![in rt.alloc(); NOBODY]?);
-    assert_eq!(rt;
-        cabin_load(&one, &[], &AVERAGES),
-        Err(PayFault::ZoneUnknown(1))
-    );
-    assert_eq!(rt;
-        cabin_load(&one, &ZONES, &AVERAGES),
-        Ok(load(0, 0, 0, 0, 0))
-    );
-    Ok(())
-}
-
-#[test]
-fn a_cabin_returns_its_counts(rt: HostRuntime) -> Result<(), Fail> {
-    let cabin = Cabin::from(vec![in rt.alloc(); count(1, 2, 3), NOBODY]?);
-    assert_eq!(rt; cabin.counts(), [count(1, 2, 3), NOBODY].as_slice());
-    let counts = Vec::from(cabin);
-    assert_eq!(rt; counts.as_slice(), [count(1, 2, 3), NOBODY].as_slice());
-    Ok(())
-}
-
-#[test]
-fn loose_load_up_to_twenty_tonnes(rt: HostRuntime) {
-    let cases = [
-        (200, 8, Some(320)),
-        (0, 0, Some(0)),
-        (20_000, 0, Some(20_000)),
-        (20_001, 0, None),
-        (19_985, 1, Some(20_000)),
-        (19_986, 1, None),
-        (0, 1_333, Some(19_995)),
-        (0, 1_334, None),
-        (u32::MAX, u16::MAX, None),
-    ];
-    for (mass, pieces, want) in cases {
-        assert_eq!(rt;
-            loose_mass(Kg(mass), pieces, &AVERAGES),
-            want.map(Kg),
-            "{mass} and {pieces} pieces"
-        );
+/// The counts of a case's zones, three numbers for each.
+fn counts_of(alloc: Global, case: &str) -> Result<Vec<ZoneCount>, Fail> {
+    let numbers = numbers(alloc, case)?;
+    let mut counts = Vec::new(alloc);
+    for zone in numbers.chunks(3) {
+        counts.push(count_of(zone))?;
     }
+    Ok(counts)
+}
+
+fn load_of_one(alloc: Global, zone: ZoneCount) -> Result<Result<Load, PayFault>, AllocError> {
+    let cabin = Cabin::from(vec![in alloc; zone]?);
+    Ok(cabin_load(&cabin, &ZONES, &AVERAGES))
 }
 
 fn load_of_two(
@@ -146,20 +56,112 @@ fn load_of_two(
     Ok(cabin_load(&cabin, &ZONES, &AVERAGES))
 }
 
-fn count(adults: u16, children: u16, infants: u16) -> ZoneCount {
-    ZoneCount {
-        adults,
-        children,
-        infants,
+/// The load of a cabin of one or two zones in an aircraft of two.
+struct Loads;
+
+impl Subject for Loads {
+    fn said(&self, alloc: Global, case: &str) -> Result<String, Fail> {
+        let load = match counts_of(alloc, case)?.as_slice() {
+            [one] => load_of_one(alloc, *one)?,
+            [first, second] => load_of_two(alloc, *first, *second)?,
+            _ => return Err(Fail::new("one zone or two")),
+        };
+        Ok(format!(in alloc; "{load:?}")?)
     }
 }
 
-fn load(mass: u32, index: i64, adults: u32, children: u32, infants: u32) -> Load {
-    Load {
-        mass: Kg(mass),
-        index: Ticks(index),
-        adults,
-        children,
-        infants,
+#[test]
+fn loads_of_a_cabin(rt: HostRuntime) {
+    let rows =
+        "Ok(Load { mass: Kg(10460), index: Ticks(-2000), adults: 120, children: 10, infants: 3 })|50 4 2 70 6 1
+Ok(Load { mass: Kg(0), index: Ticks(0), adults: 0, children: 0, infants: 0 })|0 0 0 0 0 0
+Ok(Load { mass: Kg(4844), index: Ticks(-3390800), adults: 56, children: 4, infants: 0 })|56 4 0 0 0 0
+Ok(Load { mass: Kg(7315), index: Ticks(3657500), adults: 85, children: 5, infants: 0 })|0 0 0 85 5 0
+Ok(Load { mass: Kg(5640), index: Ticks(-3948000), adults: 60, children: 0, infants: 60 })|60 0 60 0 0 0
+Ok(Load { mass: Kg(470), index: Ticks(175000), adults: 5, children: 0, infants: 5 })|0 0 5 5 0 0
+Ok(Load { mass: Kg(0), index: Ticks(0), adults: 0, children: 0, infants: 0 })|0 0 0";
+    pass(&rt, rt.alloc(), &Loads, rows);
+}
+
+// One passenger beyond the seats of a zone, and one infant more than adults over both zones.
+#[test]
+fn refusals_of_a_cabin(rt: HostRuntime) {
+    let rows = "Err(ZoneFull(1, 60))|57 4 0 0 0 0
+Err(ZoneFull(1, 60))|56 5 0 0 0 0
+Err(ZoneFull(2, 90))|0 0 0 85 6 0
+Err(ZoneFull(1, 60))|61 0 0 91 0 0
+Err(InfantsOverAdults)|60 0 61 0 0 0
+Err(InfantsOverAdults)|0 9 6 5 0 0
+Err(ZoneFull(1, 60))|61 0 62 0 0 0";
+    pass(&rt, rt.alloc(), &Loads, rows);
+}
+
+/// The load of a cabin with more zones than the aircraft, which has two; or none, for a cabin of one.
+struct Unknown;
+
+impl Subject for Unknown {
+    fn said(&self, alloc: Global, case: &str) -> Result<String, Fail> {
+        let cabin = Cabin::from(counts_of(alloc, case)?);
+        let count = cabin.counts().len();
+        let zones = if count == 1 { &[] } else { ZONES.as_slice() };
+        if count <= zones.len() {
+            return Err(Fail::new("more zones than the aircraft has"));
+        }
+        Ok(format!(in alloc; "{:?}", cabin_load(&cabin, zones, &AVERAGES))?)
     }
+}
+
+#[test]
+fn a_zone_that_the_aircraft_does_not_have(rt: HostRuntime) {
+    let rows = "Err(ZoneUnknown(3))|61 0 62 0 0 0 0 0 0
+Err(ZoneUnknown(3))|0 0 0 0 0 0 0 0 0 0 0 0
+Err(ZoneUnknown(1))|0 0 0";
+    pass(&rt, rt.alloc(), &Unknown, rows);
+}
+
+/// The counts of a cabin, and what it is taken apart to.
+struct Returned;
+
+impl Subject for Returned {
+    fn said(&self, alloc: Global, case: &str) -> Result<String, Fail> {
+        let cabin = Cabin::from(counts_of(alloc, case)?);
+        let mut said = format!(in alloc; "{:?}", cabin.counts())?;
+        let counts = Vec::from(cabin);
+        said.push_str(format!(in alloc; "{:?}", counts.as_slice())?.as_str())?;
+        Ok(said)
+    }
+}
+
+#[test]
+fn a_cabin_returns_its_counts(rt: HostRuntime) {
+    let row =
+        "[ZoneCount { adults: 1, children: 2, infants: 3 }, ZoneCount { adults: 0, children: 0, infants: 0 }]\
+        [ZoneCount { adults: 1, children: 2, infants: 3 }, ZoneCount { adults: 0, children: 0, infants: 0 }]|1 2 3 0 0 0";
+    pass(&rt, rt.alloc(), &Returned, row);
+}
+
+/// The mass of a loose load of a mass and of pieces of baggage.
+struct Loose;
+
+impl Subject for Loose {
+    fn said(&self, alloc: Global, case: &str) -> Result<String, Fail> {
+        let numbers = numbers(alloc, case)?;
+        let mass = Kg(unsigned_at(numbers.as_slice(), 0));
+        let pieces = u16::try_from(at(numbers.as_slice(), 1)).unwrap_or(0);
+        Ok(format!(in alloc; "{:?}", loose_mass(mass, pieces, &AVERAGES))?)
+    }
+}
+
+#[test]
+fn loose_load_up_to_twenty_tonnes(rt: HostRuntime) {
+    let rows = "Some(Kg(320))|200 8
+Some(Kg(0))|0 0
+Some(Kg(20000))|20000 0
+None|20001 0
+Some(Kg(20000))|19985 1
+None|19986 1
+Some(Kg(19995))|0 1333
+None|0 1334
+None|4294967295 65535";
+    pass(&rt, rt.alloc(), &Loose, rows);
 }

@@ -1,118 +1,140 @@
 // Texts of numbers and indices.
+use crate::pass;
+use case_rows::{Subject, at, numbers, unsigned_at};
 use mass_units::{
-    NumFault, Ticks, read_long_number, read_number, read_signed, read_ticks5, write_number,
-    write_signed, write_ticks2, write_ticks5,
+    Ticks, read_long_number, read_number, read_signed, read_ticks5, write_number, write_signed,
+    write_ticks2, write_ticks5,
 };
 use std::alloc::Global;
 use std::test::Fail;
 
-fn written(alloc: Global, ticks: i64) -> Result<String, Fail> {
-    let mut out = Vec::new(alloc);
-    write_ticks5(alloc, Ticks(ticks), &mut out)?;
-    Ok(String::from_utf8(out)?)
+/// The index that a text spells.
+struct IndexRead;
+
+impl Subject for IndexRead {
+    fn said(&self, alloc: Global, case: &str) -> Result<String, Fail> {
+        Ok(format!(in alloc; "{:?}", read_ticks5(case.as_bytes()))?)
+    }
 }
 
 #[test]
-fn indices_are_read(rt: HostRuntime) -> Result<(), Fail> {
-    assert_eq!(rt; read_ticks5(b"0.00000")?, Ticks(0));
-    assert_eq!(rt; read_ticks5(b"-0.00001")?, Ticks(-1));
-    assert_eq!(rt; read_ticks5(b"50.00000")?, Ticks(5_000_000));
-    assert_eq!(rt; read_ticks5(b"10000.00000")?, Ticks(1_000_000_000));
-    assert_eq!(rt; read_ticks5(b"-10000.00000")?, Ticks(-1_000_000_000));
-    Ok(())
+fn indices_are_read(rt: HostRuntime) {
+    let rows = "Ok(Ticks(0))|0.00000
+Ok(Ticks(-1))|-0.00001
+Ok(Ticks(5000000))|50.00000
+Ok(Ticks(1000000000))|10000.00000
+Ok(Ticks(-1000000000))|-10000.00000";
+    pass(&rt, rt.alloc(), &IndexRead, rows);
 }
 
 #[test]
 fn other_texts_are_refused(rt: HostRuntime) {
-    let no_index: [&[u8]; 12] = [
-        b"",
-        b"-",
-        b"-0.00000",
-        b"01.00000",
-        b"-01.00000",
-        b"50.0",
-        b"50.000000",
-        b"+1.00000",
-        b".00000",
-        b"50,00000",
-        b"50.0000a",
-        b" 1.00000",
-    ];
-    for text in no_index {
-        assert_eq!(rt; read_ticks5(text), Err(NumFault::NotANumber));
-    }
-    let too_large: [&[u8]; 4] = [
-        b"10000.00001",
-        b"-10000.00001",
-        b"1234567890123456789012345678901234567890.00000",
-        b"-1234567890123456789012345678901234567890.00000",
-    ];
-    for text in too_large {
-        assert_eq!(rt; read_ticks5(text), Err(NumFault::TooLarge));
+    let rows = "Err(NotANumber)|
+Err(NotANumber)|-
+Err(NotANumber)|-0.00000
+Err(NotANumber)|01.00000
+Err(NotANumber)|-01.00000
+Err(NotANumber)|50.0
+Err(NotANumber)|50.000000
+Err(NotANumber)|+1.00000
+Err(NotANumber)|.00000
+Err(NotANumber)|50,00000
+Err(NotANumber)|50.0000a
+Err(NotANumber)| 1.00000
+Err(TooLarge)|10000.00001
+Err(TooLarge)|-10000.00001
+Err(TooLarge)|1234567890123456789012345678901234567890.00000
+Err(TooLarge)|-1234567890123456789012345678901234567890.00000";
+    pass(&rt, rt.alloc(), &IndexRead, rows);
+}
+
+/// An index as it is written with five decimals, and with two.
+struct IndexWritten;
+
+impl Subject for IndexWritten {
+    fn said(&self, alloc: Global, case: &str) -> Result<String, Fail> {
+        let ticks = Ticks(case.parse::<i64>()?);
+        let mut out = Vec::new(alloc);
+        write_ticks5(alloc, ticks, &mut out)?;
+        out.push(b' ')?;
+        write_ticks2(alloc, ticks, &mut out)?;
+        Ok(String::from_utf8(out)?)
     }
 }
 
 #[test]
-fn indices_are_written(rt: HostRuntime) -> Result<(), Fail> {
-    let alloc = rt.alloc();
-    assert_eq!(rt; written(alloc, 0)?.as_str(), "0.00000");
-    assert_eq!(rt; written(alloc, -1)?.as_str(), "-0.00001");
-    assert_eq!(rt; written(alloc, 5_000_000)?.as_str(), "50.00000");
-    assert_eq!(rt; written(alloc, -123_456)?.as_str(), "-1.23456");
-    assert_eq!(rt; written(alloc, i64::MAX)?.as_str(), "92233720368547.75807");
-    assert_eq!(rt; written(alloc, i64::MIN)?.as_str(), "-92233720368547.75808");
-    Ok(())
+fn indices_are_written(rt: HostRuntime) {
+    let rows = "0.00000 0.00|0
+-0.00001 0.00|-1
+50.00000 50.00|5000000
+-1.23456 -1.23|-123456
+92233720368547.75807 92233720368547.76|9223372036854775807
+-92233720368547.75808 -92233720368547.76|-9223372036854775808";
+    pass(&rt, rt.alloc(), &IndexWritten, rows);
+}
+
+#[test]
+fn two_decimals_are_rounded_away_from_zero(rt: HostRuntime) {
+    let rows = "-0.00499 0.00|-499
+-0.00500 -0.01|-500
+0.00500 0.01|500
+51.66499 51.66|5166499
+99.99500 100.00|9999500";
+    pass(&rt, rt.alloc(), &IndexWritten, rows);
+}
+
+/// The number, the number of up to 32 bits and the signed number that a text spells.
+struct NumbersRead;
+
+impl Subject for NumbersRead {
+    fn said(&self, alloc: Global, case: &str) -> Result<String, Fail> {
+        let text = case.as_bytes();
+        let (number, long) = (read_number(text), read_long_number(text));
+        Ok(format!(in alloc; "{number:?} {long:?} {:?}", read_signed(text))?)
+    }
 }
 
 #[test]
 fn numbers_are_read(rt: HostRuntime) {
-    assert_eq!(rt; read_number(b"0"), Some(0));
-    assert_eq!(rt; read_number(b"999999999"), Some(999_999_999));
-    assert_eq!(rt; read_signed(b"-600"), Some(-600));
-    assert_eq!(rt; read_signed(b"0"), Some(0));
-    assert_eq!(rt; read_signed(b"-999999999"), Some(-999_999_999));
-    let no_number: [&[u8]; 7] = [b"", b"00", b"01500", b"-1", b"+1", b"1000000000", b"12a"];
-    for text in no_number {
-        assert_eq!(rt; read_number(text), None);
-    }
-    assert_eq!(rt; read_long_number(b"4294967295"), Some(u32::MAX));
-    assert_eq!(rt; read_long_number(b"4294967296"), None);
-    let no_signed: [&[u8]; 6] = [b"", b"-", b"-0", b"-01", b"--1", b"-1000000000"];
-    for text in no_signed {
-        assert_eq!(rt; read_signed(text), None);
+    let rows = "Some(0) Some(0) Some(0)|0
+Some(999999999) Some(999999999) Some(999999999)|999999999
+None Some(1000000000) None|1000000000
+None Some(4294967295) None|4294967295
+None None None|4294967296
+None None Some(-1)|-1
+None None Some(-600)|-600
+None None Some(-999999999)|-999999999
+None None None|-1000000000
+None None None|
+None None None|00
+None None None|01500
+None None None|+1
+None None None|12a
+None None None|-
+None None None|-0
+None None None|-01
+None None None|--1";
+    pass(&rt, rt.alloc(), &NumbersRead, rows);
+}
+
+/// A number as it is written, and behind it a signed number.
+struct NumbersWritten;
+
+impl Subject for NumbersWritten {
+    fn said(&self, alloc: Global, case: &str) -> Result<String, Fail> {
+        let numbers = numbers(alloc, case)?;
+        let number = u64::from(unsigned_at(numbers.as_slice(), 0));
+        let signed = i32::try_from(at(numbers.as_slice(), 1)).unwrap_or(0);
+        let mut out = Vec::new(alloc);
+        write_number(alloc, number, &mut out)?;
+        write_signed(alloc, signed, &mut out)?;
+        Ok(String::from_utf8(out)?)
     }
 }
 
 #[test]
-fn numbers_are_written(rt: HostRuntime) -> Result<(), Fail> {
-    let alloc = rt.alloc();
-    let mut out = Vec::new(alloc);
-    write_number(alloc, 1500, &mut out)?;
-    write_signed(alloc, -600, &mut out)?;
-    write_signed(alloc, 0, &mut out)?;
-    write_number(alloc, u64::from(u32::MAX), &mut out)?;
-    assert_eq!(rt; out.as_slice(), b"1500-60004294967295".as_slice());
-    Ok(())
-}
-
-fn written_short(alloc: Global, ticks: i64) -> Result<String, Fail> {
-    let mut out = Vec::new(alloc);
-    write_ticks2(alloc, Ticks(ticks), &mut out)?;
-    Ok(String::from_utf8(out)?)
-}
-
-#[test]
-fn indices_are_written_with_two_decimals(rt: HostRuntime) -> Result<(), Fail> {
-    let alloc = rt.alloc();
-    assert_eq!(rt; written_short(alloc, 0)?.as_str(), "0.00");
-    assert_eq!(rt; written_short(alloc, -499)?.as_str(), "0.00");
-    assert_eq!(rt; written_short(alloc, -500)?.as_str(), "-0.01");
-    assert_eq!(rt; written_short(alloc, 500)?.as_str(), "0.01");
-    assert_eq!(rt; written_short(alloc, 5_166_499)?.as_str(), "51.66");
-    assert_eq!(rt; written_short(alloc, 9_999_500)?.as_str(), "100.00");
-    assert_eq!(rt;
-        written_short(alloc, i64::MIN)?.as_str(),
-        "-92233720368547.76"
-    );
-    Ok(())
+fn numbers_are_written(rt: HostRuntime) {
+    let rows = "1500-600|1500 -600
+42949672950|4294967295 0";
+    pass(&rt, rt.alloc(), &NumbersWritten, rows);
 }

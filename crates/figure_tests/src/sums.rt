@@ -1,13 +1,26 @@
 // Sums.
+use crate::pass;
+use case_rows::{Subject, at, numbers, unsigned_at};
 use mass_units::{Kg, Ticks};
+use std::alloc::Global;
+use std::test::Fail;
+
+/// The sum of two masses, and that of two indices.
+struct Sums;
+
+impl Subject for Sums {
+    fn said(&self, alloc: Global, case: &str) -> Result<String, Fail> {
+        let numbers = numbers(alloc, case)?;
+        let numbers = numbers.as_slice();
+        let mass = Kg(unsigned_at(numbers, 0)).plus(Kg(unsigned_at(numbers, 1)));
+        let index = Ticks(at(numbers, 2)).plus(Ticks(at(numbers, 3)));
+        Ok(format!(in alloc; "{mass:?} {index:?}")?)
+    }
+}
 
 #[test]
 fn sums_do_not_overflow(rt: HostRuntime) {
-    assert_eq!(rt; Kg(42_000).plus(Kg(580)), Some(Kg(42_580)));
-    assert_eq!(rt; Kg(u32::MAX).plus(Kg(1)), None);
-    assert_eq!(rt;
-        Ticks(5_000_000).plus(Ticks(-2_000)),
-        Some(Ticks(4_998_000))
-    );
-    assert_eq!(rt; Ticks(i64::MIN).plus(Ticks(-1)), None);
+    let rows = "Some(Kg(42580)) Some(Ticks(4998000))|42000 580 5000000 -2000
+None None|4294967295 1 -9223372036854775808 -1";
+    pass(&rt, rt.alloc(), &Sums, rows);
 }
