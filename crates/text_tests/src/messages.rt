@@ -1,8 +1,10 @@
 // The office's three documents split by hand, the offsets of faults, and texts of a builder read back.
+use crate::pass;
+use case_rows::Subject;
 use desk_base::NoMemory;
 use std::alloc::Global;
 use std::test::Fail;
-use telex::{Builder, LONGEST_LINE, Message, Part, TelexFault, cut};
+use telex::{Builder, LONGEST_LINE, Message, Part, cut};
 
 const LOADSHEET: &str = "LOADSHEET
 XX210/12.DAIAB.FRA.ARN
@@ -98,6 +100,12 @@ fn listed(alloc: Global, message: &Message<'_>) -> Result<Vec<u8>, NoMemory> {
     Ok(out.finish())
 }
 
+/// The parts of the text.
+fn parts_of(alloc: Global, text: &str) -> Result<String, Fail> {
+    let message = cut(text.as_bytes())?;
+    Ok(String::from_utf8(listed(alloc, &message)?)?)
+}
+
 #[test]
 fn documents_are_split_into_their_parts(rt: HostRuntime) -> Result<(), Fail> {
     let rows = [
@@ -107,59 +115,55 @@ fn documents_are_split_into_their_parts(rt: HostRuntime) -> Result<(), Fail> {
         (EMPTY_PARTS, EMPTY_PARTS_CUT),
     ];
     for (text, parts) in rows {
-        let message = cut(text.as_bytes())?;
-        let got = String::from_utf8(listed(rt.alloc(), &message)?)?;
-        assert_eq!(rt; got.as_str(), parts);
+        assert_eq!(rt; parts_of(rt.alloc(), text)?.as_str(), parts);
     }
     Ok(())
 }
 
-#[test]
-fn faults_have_their_offsets(rt: HostRuntime) -> Result<(), Fail> {
-    let longest = vec![in rt.alloc(); b'A'; LONGEST_LINE]?;
-    let longer = vec![in rt.alloc(); b'A'; LONGEST_LINE + 1]?;
-    let mut out = Builder::new(rt.alloc());
-    out.text(longest.as_slice())?;
-    out.end_line()?;
-    let fits = out.finish();
-    let mut out = Builder::new(rt.alloc());
-    out.text(fits.as_slice())?;
-    out.text(longer.as_slice())?;
-    out.end_line()?;
-    let second_too_long = out.finish();
-    let mut out = Builder::new(rt.alloc());
-    out.text(longer.as_slice())?;
-    let long_and_no_end = out.finish();
-    let mut out = Builder::new(rt.alloc());
-    out.text(longer.as_slice())?;
-    out.text(b"\x7F")?;
-    let long_and_bad = out.finish();
+/// The fault of a text, in which a `@` stands for a line of the greatest length, and a `^` for a tilde.
+struct Faults;
 
-    let rows: [(&[u8], Option<TelexFault>); 14] = [
-        (LDM.as_bytes(), None),
-        (b"\n", None),
-        (b" ~\n", None),
-        (fits.as_slice(), None),
-        (b"LD\x07\n", Some(TelexFault::BadByte(2))),
-        (b"LD\x07\x07", Some(TelexFault::BadByte(2))),
-        (b"\x1F\n", Some(TelexFault::BadByte(0))),
-        (b"LDM\r\n", Some(TelexFault::BadByte(3))),
-        (second_too_long.as_slice(), Some(TelexFault::LineTooLong(2))),
-        (long_and_no_end.as_slice(), Some(TelexFault::LineTooLong(1))),
-        (long_and_bad.as_slice(), Some(TelexFault::BadByte(201))),
-        (b"", Some(TelexFault::NoEnd)),
-        (b"LDM", Some(TelexFault::NoEnd)),
-        (b"LDM\nEND", Some(TelexFault::NoEnd)),
-    ];
-    for (i, (text, fault)) in rows.into_iter().enumerate() {
-        assert_eq!(rt; cut(text).err(), fault, "in row {i}");
+impl Subject for Faults {
+    fn said(&self, alloc: Global, case: &str) -> Result<String, Fail> {
+        let mut longest = String::new(alloc);
+        for _ in 0..LONGEST_LINE {
+            longest.push('A')?;
+        }
+        let text = String::from_str(alloc, case)?
+            .replace(alloc, "@", longest.as_str())?
+            .replace(alloc, "^", "~")?;
+        Ok(format!(in alloc; "{:?}", cut(text.as_bytes()).err())?)
     }
-    Ok(())
 }
 
+// A line may have the greatest length, and not one character more.
 #[test]
-fn a_built_text_is_read_back(rt: HostRuntime) -> Result<(), Fail> {
-    let mut out = Builder::new(rt.alloc());
+fn faults_have_their_offsets(rt: HostRuntime) {
+    pass(
+        &rt,
+        rt.alloc(),
+        &Faults,
+        "None|LDM~XX210/12.DAIAB.Y150.2/4~-ARN.120/10/3.T2120.1/1000.4/800.5/320.PAX/130~",
+    );
+    let rows = "None|~
+None| ^~
+None|@~
+Some(BadByte(2))|LD\x07~
+Some(BadByte(2))|LD\x07\x07
+Some(BadByte(0))|\x1F~
+Some(BadByte(3))|LDM\r~
+Some(LineTooLong(2))|@~@A~
+Some(LineTooLong(1))|@A
+Some(BadByte(201))|@A\x7F
+Some(NoEnd)|
+Some(NoEnd)|LDM
+Some(NoEnd)|LDM~END";
+    pass(&rt, rt.alloc(), &Faults, rows);
+}
+
+/// The parts of a text of two lines that a builder made, the first of a word and numbers.
+fn built(alloc: Global) -> Result<String, Fail> {
+    let mut out = Builder::new(alloc);
     out.text(b"DELTA")?;
     for n in [0, -7, 42, i64::MAX, i64::MIN] {
         out.text(b"/")?;
@@ -168,29 +172,15 @@ fn a_built_text_is_read_back(rt: HostRuntime) -> Result<(), Fail> {
     out.end_line()?;
     out.text(b"END")?;
     out.end_line()?;
-    let text = out.finish();
+    Ok(String::from_utf8(out.finish())?)
+}
 
-    let message = cut(text.as_slice())?;
-    let mut lines = message.lines();
-    let first = lines.next().ok_or("no first line")?;
-    let mut parts = first.elements();
-    let put_in: [&[u8]; 6] = [
-        b"DELTA",
-        b"0",
-        b"-7",
-        b"42",
-        b"9223372036854775807",
-        b"-9223372036854775808",
-    ];
-    for text in put_in {
-        assert_eq!(rt; parts.next().map(|part| part.text), Some(text));
-    }
-    assert_eq!(rt; parts.next(), None);
-    let second = lines.next().ok_or("no second line")?;
+#[test]
+fn a_built_text_is_read_back(rt: HostRuntime) -> Result<(), Fail> {
+    let built = built(rt.alloc())?;
     assert_eq!(rt;
-        (second.text, second.at),
-        (b"END".as_slice(), text.len() - 4)
+        parts_of(rt.alloc(), built.as_str())?.as_str(),
+        "0:DELTA /6:0 /8:-7 /11:42 /14:9223372036854775807 /34:-9223372036854775808\n55:END\n"
     );
-    assert_eq!(rt; lines.next(), None);
     Ok(())
 }
