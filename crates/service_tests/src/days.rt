@@ -571,7 +571,7 @@ fn a_failed_read_leaves_the_answers_to_whole_requests(rt: HostRuntime) -> Result
 fn a_failed_write_leaves_a_first_part_of_the_answers(rt: HostRuntime) -> Result<(), Fail> {
     let alloc = rt.alloc();
     let due = joined(alloc, &[MORNING_ANSWERS, PLAN_ANSWER])?;
-    for place in 1..16 {
+    for place in 1..9 {
         let link = failing_link(alloc, Vec::new(alloc), vec![in alloc; place]?)?;
         let (end, written) = served(&rt, MemoryKeeper::new(alloc), 2_000, link)?;
         assert_eq!(rt; end, ConnEnd::WriteFault);

@@ -354,7 +354,7 @@ fn an_answer_breaks_off_where_the_link_does(rt: HostRuntime) -> Result<(), Fail>
         (5, 9, 5),
         (0, 9, 0),
         (500, 1, 0),
-        (500, 2, 71),
+        (500, 2, 75),
     ];
     for (room, failing, length) in rows {
         let mut link = MemoryLink::new(
@@ -369,5 +369,23 @@ fn an_answer_breaks_off_where_the_link_does(rt: HostRuntime) -> Result<(), Fail>
         assert_eq!(rt; whole, length == text.len());
         assert_eq!(rt; link.written(), &text[..length]);
     }
+    Ok(())
+}
+
+#[test]
+fn a_long_body_follows_its_head(rt: HostRuntime) -> Result<(), Fail> {
+    let alloc = rt.alloc();
+    let body = vec![in alloc; b'x'; 5000]?;
+    let head = b"HTTP/1.1 200 OK\r\nContent-Type: text/plain\r\nContent-Length: 5000\r\n\r\n";
+    let mut link = MemoryLink::new(
+        alloc,
+        Vec::new(alloc),
+        1,
+        9000,
+        Vec::new(alloc),
+        vec![in alloc; 2]?,
+    )?;
+    assert!(rt; answer(&mut link, 200, false, false, body.as_slice()).is_err());
+    assert_eq!(rt; link.written(), head.as_slice());
     Ok(())
 }
