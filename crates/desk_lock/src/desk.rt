@@ -6,7 +6,7 @@ ghost use Rattle.desk_lock.specs.Views.{card, seen_of, lasting_ticket};
 ghost use Rattle.desk_lock.specs.Steps.{desk_seat, IsSeatOf};
 
 use crate::board::{Board, BoardSeat};
-use crate::desk_steps::{draw, serve, wait, wake};
+use crate::desk_steps::{draw, serve, stand_back, wait, wake};
 use crate::machine::Machine;
 use std::alloc::Global;
 use std::sync::{Arc, Wait};
@@ -86,6 +86,7 @@ impl<M: Machine> Desk<M> {
         if self.is_full() {
             return Err(Full { request });
         }
+        stand_back(&self.board, &mut self.seat);
         let ticket = draw(&self.board, &mut self.seat, self.place);
         self.ticket = Some(ticket);
         if ticket >= self.capacity {
@@ -100,7 +101,7 @@ impl<M: Machine> Desk<M> {
             alloc,
             request,
         );
-        wake(&self.board, &mut self.seat, ticket);
+        wake(&self.board, &mut self.seat);
         Ok(reply)
     }
 }

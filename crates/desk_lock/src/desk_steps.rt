@@ -8,11 +8,50 @@ ghost use Rattle.desk_lock.specs.Steps.{HasTurn, GetsTurn, IsTurnDone, HasServed
 use crate::board::{Advance, Board, BoardSeat, Count, Draw, Look, MACHINE, SERVING, TICKETS};
 use crate::machine::Machine;
 use std::alloc::Global;
-use std::hint;
 use std::sync::Wait;
+use std::{hint, thread};
 
-/// How often a desk looks before it parks. A turn takes a few microseconds, and to park and be woken takes longer.
-const LOOKS: u32 = 4_000;
+/// How often a desk looks before it draws, and again before it parks. A turn takes a few microseconds, and to park and
+/// be woken takes longer.
+const LOOKS: u32 = 2_000;
+
+/// How often it looks before it lets another thread have the processor.
+const LOOKS_IN_A_ROW: u32 = 100;
+
+/// Pauses between two looks.
+fn pause(looks: u32) {
+    if looks % LOOKS_IN_A_ROW == LOOKS_IN_A_ROW - 1 {
+        thread::yield_now();
+    } else {
+        hint::spin_loop();
+    }
+}
+
+/// How many tickets are drawn whose turn has not ended.
+fn waiting<M: Machine>(board: &Board<M>, seat: &mut BoardSeat<M>) -> u64
+    requires board { IsSeatOf board.now.shared.table_id seat.old.table_id }
+    ensures same { (seat.new.table_id ≡ seat.old.table_id) × (seat.new.id ≡ seat.old.id) }
+    ensures unchanged { seat.new.me ≡ seat.old.me }
+{
+    let served = board.shared.load::<Count>(seat, SERVING);
+    let drawn = board.shared.load::<Count>(seat, TICKETS);
+    drawn.saturating_sub(served)
+}
+
+/// Waits a while for the turns of others, with no ticket in hand: a desk that loses the processor with a ticket in hand
+/// holds up all desks behind it.
+pub(crate) fn stand_back<M: Machine>(board: &Board<M>, seat: &mut BoardSeat<M>)
+    requires board { IsSeatOf board.now.shared.table_id seat.old.table_id }
+    ensures same { (seat.new.table_id ≡ seat.old.table_id) × (seat.new.id ≡ seat.old.id) }
+    ensures unchanged { seat.new.me ≡ seat.old.me }
+{
+    for looks in 0..LOOKS {
+        if waiting(board, seat) == 0 {
+            return;
+        }
+        pause(looks);
+    }
+}
 
 /// Draws the next ticket.
 pub(crate) fn draw<M: Machine>(board: &Board<M>, seat: &mut BoardSeat<M>, place: u32) -> u64
@@ -58,11 +97,11 @@ fn spin<M: Machine>(board: &Board<M>, seat: &mut BoardSeat<M>, place: u32, ticke
         board.now.shared.key place ticket (card_of seat.old.me.0) [] seat.new.me)
         (seat.new.me ≡ seat.old.me) }
 {
-    for _ in 0..LOOKS {
+    for looks in 0..LOOKS {
         if look(board, seat, place, ticket) == ticket {
             return true;
         }
-        hint::spin_loop();
+        pause(looks);
     }
     false
 }
@@ -163,23 +202,13 @@ pub(crate) fn serve<M: Machine>(
     reply
 }
 
-/// How many tickets are drawn.
-fn drawn<M: Machine>(board: &Board<M>, seat: &mut BoardSeat<M>) -> u64
+/// Wakes the desks that are parked, so that each of them looks again. There is none where no ticket waits.
+pub(crate) fn wake<M: Machine>(board: &Board<M>, seat: &mut BoardSeat<M>)
     requires board { IsSeatOf board.now.shared.table_id seat.old.table_id }
     ensures same { (seat.new.table_id ≡ seat.old.table_id) × (seat.new.id ≡ seat.old.id) }
     ensures unchanged { seat.new.me ≡ seat.old.me }
 {
-    board.shared.load::<Count>(seat, TICKETS)
-}
-
-/// Wakes the desks that are parked, so that each of them looks again. There is none where no ticket is drawn behind the
-/// one that was served.
-pub(crate) fn wake<M: Machine>(board: &Board<M>, seat: &mut BoardSeat<M>, served: u64)
-    requires board { IsSeatOf board.now.shared.table_id seat.old.table_id }
-    ensures same { (seat.new.table_id ≡ seat.old.table_id) × (seat.new.id ≡ seat.old.id) }
-    ensures unchanged { seat.new.me ≡ seat.old.me }
-{
-    if drawn(board, seat).saturating_sub(served) > 1 {
+    if waiting(board, seat) > 0 {
         board.shared.wake_all(SERVING);
     }
 }
