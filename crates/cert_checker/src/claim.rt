@@ -1,7 +1,7 @@
 //! Whether a claim holds, and what is better than it.
 
 ghost use Rattle.std.specs.Prelude.{◌≡◌, ◌↔◌, ◌≤◌, IfOk, IfErr, IsTrue, false, length};
-ghost use Rattle.hold_limits.specs.Placement.{KeepsLateralLimit, IsAdmissible, IsAtMost};
+ghost use Rattle.hold_limits.specs.Placement.{IsAtMost};
 ghost use Rattle.certificate.specs.Evidence.{claimed};
 ghost use Rattle.cert_checker.specs.Claims.{ClaimsPath, ClaimsNone};
 ghost use Rattle.cert_checker.specs.FirstReason.{ClaimHolds};
@@ -11,7 +11,7 @@ ghost use Rattle.cert_checker.specs.declared.reject.Reject.TheVariants.{NotAPlac
 use crate::reject::Reject;
 use crate::standard::{Evidence, Standard};
 use certificate::{Certificate, Claim};
-use hold_limits::{Task, hold_index_of, is_in_window, is_sound, lateral_difference_of, outcome};
+use hold_limits::{Task, is_admissible, outcome};
 use std::cmp::Ordering;
 
 /// Whether the certificate claims a path.
@@ -23,25 +23,6 @@ pub fn claims_path(certificate: &Certificate) -> bool
         Claim::Best(_) => true,
         Claim::NoneFits => false,
     }
-}
-
-/// Whether the lateral difference of the path is within the lateral limit of the hold.
-fn keeps_lateral_limit(task: &Task, path: &[u8]) -> bool
-    requires { length path.now ≤ length task.now.items }
-    ensures { IsTrue result ↔ KeepsLateralLimit task.now path.now }
-{
-    let difference = lateral_difference_of(task, path);
-    task.hold().is_within_lateral(difference)
-}
-
-/// Whether the path is admissible.
-fn is_admissible(task: &Task, path: &[u8]) -> bool
-    ensures { IsTrue result ↔ IsAdmissible task.now path.now }
-{
-    is_sound(task, path)
-        && path.len() == task.items().len()
-        && is_in_window(task, hold_index_of(task, path))
-        && keeps_lateral_limit(task, path)
 }
 
 /// The claimed path with its distance, if one is claimed. It is refused where it is not admissible.

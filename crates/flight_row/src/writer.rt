@@ -1,8 +1,6 @@
 //! The writer of a row's text.
 
-ghost use Rattle.std.specs.Prelude.{◌≡◌, Some, List, All, IfOk};
-ghost use Rattle.hold_parts.specs.Spellings.{IsName};
-ghost use Rattle.hold_parts.specs.declared.parts.Position.{Position};
+ghost use Rattle.std.specs.Prelude.{◌≡◌, Some, List, IfOk};
 ghost use Rattle.aircraft_file.specs.Craft.{Craft};
 ghost use Rattle.flight_row.specs.declared.row.Version.TheVariants.{Two};
 ghost use Rattle.flight_row.specs.RowText.{row_text};
@@ -12,7 +10,6 @@ use crate::row_lines::{push_base, push_changes, push_head, push_plan};
 use aircraft_file::Aircraft;
 use desk_base::NoMemory;
 use flight_state::FlightState;
-use hold_limits::{Hold, Position};
 use std::alloc::Global;
 use telex::Builder;
 
@@ -24,7 +21,7 @@ pub fn write_row(alloc: Global, a: &Aircraft, s: &FlightState) -> Result<Vec<u8>
         → IfOk result (λ text. Reads fleet text.items s.now) }
 {
     let hold = a.hold();
-    let _positions = named_positions(hold);
+    let _positions = hold.named_positions();
     let mut text = Builder::new(alloc);
     push_head(&mut text, s)?;
     push_base(&mut text, &s.base)?;
@@ -33,17 +30,4 @@ pub fn write_row(alloc: Global, a: &Aircraft, s: &FlightState) -> Result<Vec<u8>
     text.text(b"END")?;
     text.end_line()?;
     Ok(text.finish())
-}
-
-/// The positions of the hold. Each has a name, as its type says.
-fn named_positions(hold: &Hold) -> &[Position]
-    ensures value { result.now ≡ hold.now.positions }
-    ensures named { All (λ (q : Position). IsName q.name) result.now }
-{
-    let positions = hold.positions();
-    // What is known of a name is known once it is read.
-    for position in positions {
-        let _name = position.name.bytes();
-    }
-    positions
 }

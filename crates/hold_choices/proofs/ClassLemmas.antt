@@ -14,7 +14,7 @@ use Rattle.hold_limits.specs.BranchOrder.{ordered}
 use Rattle.hold_limits.proofs.BranchOrderLemmas.{length-ordered}
 use Rattle.hold_limits.proofs.TwinLemmas.{are_twins-Decides, AreTwins-sym, AreTwins-trans}
 use Rattle.position_set.proofs.SetLemmas.{lt-or-le}
-use Rattle.hold_choices.specs.Conflicts.{first_twin}
+use Rattle.hold_limits.specs.Twins.{first_twin}
 use Rattle.hold_choices.proofs.ListLemmas.{map-at}
 
 twins-itself : (item : Item) → are_twins item item ≡ true

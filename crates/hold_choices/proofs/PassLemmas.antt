@@ -14,7 +14,7 @@ use Rattle.position_set.specs.Sets.{has, members}
 use Rattle.price_trees.specs.Prices.{Candidate, candidates}
 use Rattle.price_trees.specs.Narrowing.{leaves, leaves_later, leaves_earlier, left_by}
 use Rattle.hold_choices.specs.declared.taken.Taken.{Taken}
-use Rattle.hold_choices.specs.Conflicts.{first_twin}
+use Rattle.hold_limits.specs.Twins.{first_twin}
 use Rattle.hold_choices.specs.Passing.{leaves_class_later, leaves_class_earlier, is_taken, IsTakenBy}
 use Rattle.hold_choices.proofs.ClassLemmas.{of-class, twins-swap, class-known}
 use Rattle.hold_choices.proofs.ListLemmas.{zip-at, drop-at, take-at}

@@ -1,18 +1,12 @@
 -- what containers take from one another, ready to look up
 use Rattle.std.specs.Prelude.{◌≡◌, ℕ, ◌<◌, ◌||◌, ◌==◌, nat_le, map, slice_index_or}
-use Rattle.std.specs.List.{position_or_len}
-use Rattle.hold_parts.specs.declared.parts.Item.{Item}
-use Rattle.hold_parts.specs.Twins.{are_twins}
 use Rattle.hold_limits.specs.Problem.{Problem}
 use Rattle.hold_limits.specs.BranchOrder.{ordered}
+use Rattle.hold_limits.specs.Twins.{first_twin}
 use Rattle.hold_limits.specs.Enumeration.{exclude}
 use Rattle.position_set.specs.declared.set.PositionSet.{PositionSet}
 use Rattle.position_set.specs.Sets.{has}
 use Rattle.hold_choices.specs.declared.conflicts.Conflicts.{Conflicts}
-
--- the rank of the first twin of a container, which may be itself, in branch order
-abbrev pub first_twin : Problem → Item → ℕ
-first_twin t item = position_or_len (λ other. are_twins other item) (ordered t.items)
 
 -- a position takes itself and those that it excludes from other containers, and a container's class is the rank of its first twin
 pub record AreConflicts (t : Problem) (c : Conflicts) : Type 0 where

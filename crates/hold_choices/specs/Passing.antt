@@ -7,7 +7,7 @@ use Rattle.position_set.specs.Sets.{has}
 use Rattle.price_trees.specs.Prices.{Candidate}
 use Rattle.price_trees.specs.Narrowing.{leaves, leaves_earlier}
 use Rattle.hold_choices.specs.declared.taken.Taken.{Taken}
-use Rattle.hold_choices.specs.Conflicts.{first_twin}
+use Rattle.hold_limits.specs.Twins.{first_twin}
 
 -- an earlier container leaves the position to one of the class
 abbrev pub leaves_class_later : Problem → ℕ → ℕ → Candidate → Bool

@@ -4,10 +4,11 @@ ghost use Rattle.std.specs.Prelude.{◌≡◌, ◌<◌, ◌≤◌, ◌&&◌, ◌
 ghost use Rattle.std.specs.List.{list_any};
 ghost use Rattle.hold_limits.specs.BranchOrder.{ordered};
 ghost use Rattle.hold_limits.specs.Enumeration.{exclude};
+ghost use Rattle.hold_limits.specs.Twins.{first_twin};
 ghost use Rattle.position_set.specs.declared.set.PositionSet.{PositionSet};
 ghost use Rattle.position_set.specs.Sets.{has, members};
 ghost use Rattle.price_trees.specs.Narrowing.{leaves};
-ghost use Rattle.hold_choices.specs.Conflicts.{AreConflicts, first_twin};
+ghost use Rattle.hold_choices.specs.Conflicts.{AreConflicts};
 
 use arrayvec::ArrayVec;
 use hold_limits::{Hold, Item, Task};
@@ -71,24 +72,12 @@ fn up_to_each() -> [PositionSet; 64]
     up_to
 }
 
-fn first_twin(task: &Task, item: &Item) -> u8
-    ensures { result ≡ first_twin task.now item.now }
-{
-    let count = task.items().len();
-    for rank in 0..count {
-        if task.at_rank(rank).is_twin_of(item) {
-            return rank as u8;
-        }
-    }
-    count as u8
-}
-
 fn classes_of(task: &Task) -> ArrayVec<u8, 60>
     ensures { result.items ≡ map (first_twin task.now) (ordered task.now.items) }
 {
     let mut classes = ArrayVec::new();
     for rank in 0..task.items().len() {
-        classes.push(first_twin(task, task.at_rank(rank)));
+        classes.push(task.first_twin(task.at_rank(rank)));
     }
     classes
 }

@@ -1,7 +1,10 @@
 -- interchangeable containers in a placement
 use Rattle.std.specs.Prelude.{◌≡◌, ℕ, ◌<◌, Bool, not, ◌||◌, nat_lt, List, Some, AllPairs, slice_get}
+use Rattle.std.specs.List.{position_or_len}
+use Rattle.hold_parts.specs.declared.parts.Item.{Item}
 use Rattle.hold_parts.specs.Twins.{AreTwins, are_twins}
 use Rattle.hold_limits.specs.Problem.{Problem}
+use Rattle.hold_limits.specs.BranchOrder.{ordered}
 use Rattle.hold_limits.specs.Placement.{Placed, placed}
 use Rattle.hold_limits.specs.Enumeration.{list_all_pairs}
 
@@ -17,3 +20,7 @@ IsRising t prefix = AllPairs (λ (a b : Placed). AreTwins a.0 b.0 → a.1 < b.1)
 -- the same, as a test
 abbrev pub is_rising : Problem → List ℕ → Bool
 is_rising t prefix = list_all_pairs (λ (a b : Placed). not (are_twins a.0 b.0) || nat_lt a.1 b.1) (placed t prefix)
+
+-- the rank of the first twin of a container, which may be itself, in branch order
+abbrev pub first_twin : Problem → Item → ℕ
+first_twin t item = position_or_len (λ other. are_twins other item) (ordered t.items)

@@ -3,9 +3,10 @@
 
 ghost use Rattle.std.specs.Prelude.{◌≡◌, ◌≤◌, ◌↔◌, ◌≤ℤ◌, unsigned_abs, IsTrue, length};
 ghost use Rattle.hold_limits.specs.Faults.{IsLawful};
-ghost use Rattle.hold_limits.specs.Placement.{IsSound, hold_index, take_off_index, distance_to, distance, lateral_difference};
+ghost use Rattle.hold_limits.specs.Placement.{IsSound, IsAdmissible, KeepsLateralLimit, hold_index, take_off_index, distance_to, distance, lateral_difference};
 
 use crate::moments::{Arm, moment_of};
+use crate::sound::is_sound;
 use crate::task::{Path, Task};
 use mass_units::Ticks;
 
@@ -89,4 +90,23 @@ pub fn lateral_of(task: &Task, path: &Path) -> i64
     ensures bounded { unsigned_abs result ≤ 2480000 }
 {
     lateral_difference_of(task, path.as_slice())
+}
+
+/// Whether the lateral difference of a path is within the lateral limit of the hold.
+fn keeps_lateral_limit(task: &Task, path: &[u8]) -> bool
+    requires { length path.now ≤ length task.now.items }
+    ensures { IsTrue result ↔ KeepsLateralLimit task.now path.now }
+{
+    let difference = lateral_difference_of(task, path);
+    task.hold().is_within_lateral(difference)
+}
+
+/// Whether a path places the whole offer within every limit of the hold and the window.
+pub fn is_admissible(task: &Task, path: &[u8]) -> bool
+    ensures { IsTrue result ↔ IsAdmissible task.now path.now }
+{
+    is_sound(task, path)
+        && path.len() == task.items().len()
+        && is_in_window(task, hold_index_of(task, path))
+        && keeps_lateral_limit(task, path)
 }

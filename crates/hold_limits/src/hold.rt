@@ -1,4 +1,6 @@
-ghost use Rattle.std.specs.Prelude.{◌≡◌, ◌==◌, ◌≤◌, ◌↔◌, ℕ, Bool, find, IfOk, IfErr, Some, None, IsTrue, length, option_copied};
+ghost use Rattle.std.specs.Prelude.{◌≡◌, ◌≢◌, ◌==◌, ◌≤◌, ◌↔◌, ℕ, Bool, find, All, AllPairs, IfOk, IfErr, Some, None, IsTrue, length, option_copied};
+ghost use Rattle.hold_parts.specs.Spellings.{IsName};
+ghost use Rattle.hold_parts.specs.declared.parts.Position.{Position};
 ghost use Rattle.hold_limits.specs.Layout.{layout_of, with_lateral, name_at};
 ghost use Rattle.hold_limits.specs.Lateral.{sides_of, side_at, IsWithinLateral};
 ghost use Rattle.hold_limits.specs.Faults.{IsWellSpelled, IsLawfulHold, hold_fault, side_fault};
@@ -94,6 +96,21 @@ impl Hold {
         ensures lawful { IsLawfulHold self.now }
     {
         self.positions.as_slice()
+    }
+
+    /// The positions, from nose to tail: at most 64, each with a name of its own.
+    pub fn named_positions(&self) -> &[Position]
+        ensures value { result.now ≡ self.now.positions }
+        ensures few { length result.now ≤ 64 }
+        ensures named { All (λ (q : Position). IsName q.name) result.now }
+        ensures differ { AllPairs (λ (a b : Position). a.name ≢ b.name) result.now }
+    {
+        let positions = self.positions();
+        // What is known of a name is known once it is read.
+        for position in positions {
+            let _name = position.name.bytes();
+        }
+        positions
     }
 
     /// The pairs of positions of which only one may be used.

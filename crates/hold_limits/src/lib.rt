@@ -16,7 +16,8 @@ mod task_faults;
 
 pub use arrayvec::ArrayVec;
 pub use balance::{
-    distance_from_ideal, hold_index_of, is_in_window, lateral_difference_of, lateral_of, outcome,
+    distance_from_ideal, hold_index_of, is_admissible, is_in_window, lateral_difference_of,
+    lateral_of, outcome,
 };
 pub use fault::{HoldFault, TaskFault};
 pub use hold::Hold;

@@ -2,6 +2,7 @@ ghost use Rattle.std.specs.Prelude.{◌≡◌, ◌↔◌, ◌<◌, IfOk, IfErr, 
 ghost use Rattle.hold_limits.specs.BranchOrder.{order_of, ordered};
 ghost use Rattle.hold_limits.specs.Problem.{indices_of, problem_of};
 ghost use Rattle.hold_limits.specs.Faults.{IsLawful, task_fault};
+ghost use Rattle.hold_limits.specs.Twins.{first_twin};
 
 use crate::fault::TaskFault;
 use crate::hold::Hold;
@@ -145,6 +146,19 @@ impl Task {
         ensures lawful { IsLawful self.now }
     {
         item_at(self.items.as_slice(), self.order.as_slice(), rank)
+    }
+
+    /// The rank in branch order of the first twin of a container, which may be itself. The number of containers where none is.
+    pub fn first_twin(&self, item: &Item) -> u8
+        ensures { result ≡ first_twin self.now item.now }
+    {
+        let count = self.items().len();
+        for rank in 0..count {
+            if self.at_rank(rank).is_twin_of(item) {
+                return rank as u8;
+            }
+        }
+        count as u8
     }
 
     /// The take-off index without the hold index, in ticks.

@@ -35,7 +35,7 @@ use Rattle.hold_partial.specs.Arrangement.{Ranked, ranked_of, at_rank}
 use Rattle.hold_partial.specs.Ahead.{AreExtremes, Spares, IsSpanOfTwin, moved, IsAhead}
 use Rattle.hold_partial.specs.Kept.{AreTables, factor_of}
 use Rattle.position_set.specs.Sets.{has}
-use Rattle.hold_partial.specs.Tables.{first_twin}
+use Rattle.hold_limits.specs.Twins.{first_twin}
 use Rattle.hold_partial.proofs.ClosedLemmas.{at_rank-ext, falls-next_other, falls-next_twin, falls-twins, class-of_twins}
 use Rattle.hold_partial.proofs.KeptLemmas.{stand-known}
 use Rattle.hold_partial.proofs.LevelSteps.{is_blocked-next, free-by, hold_index-bound, lateral-bound}

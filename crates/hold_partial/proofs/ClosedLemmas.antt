@@ -25,7 +25,7 @@ use Rattle.position_set.specs.declared.set.PositionSet.{PositionSet}
 use Rattle.hold_partial.specs.Arrangement.{Ranked, at_rank}
 use Rattle.hold_partial.specs.Kept.{AreClosed}
 use Rattle.position_set.specs.Sets.{has, Stands}
-use Rattle.hold_partial.specs.Tables.{first_twin}
+use Rattle.hold_limits.specs.Twins.{first_twin}
 use Rattle.hold_partial.proofs.LevelSteps.{at_rank-or}
 use Rattle.position_set.proofs.SetLemmas.{lt-or-le}
 

@@ -19,7 +19,8 @@ use Rattle.hold_partial.specs.Arrangement.{Ranked, IsByInfluence, at_rank}
 use Rattle.hold_partial.specs.Levels.{IsLevel}
 use Rattle.hold_partial.specs.Limits.{limits_on, AreLoads, AreAllowed}
 use Rattle.position_set.specs.Sets.{Stands}
-use Rattle.hold_partial.specs.Tables.{AreDemands, IsPositionTable, IsSides, side_in, first_twin}
+use Rattle.hold_limits.specs.Twins.{first_twin}
+use Rattle.hold_partial.specs.Tables.{AreDemands, IsPositionTable, IsSides, side_in}
 
 -- the limits that speak of each position
 pub record AreLimitLists (hold : Layout) (lists : List (ArrayVec ℕ)) : Type 0 where

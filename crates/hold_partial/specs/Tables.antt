@@ -1,12 +1,11 @@
 -- what is looked up of a container, of a position and of the sides of a hold, and what each stands for
 use Rattle.std.specs.Prelude.{◌≡◌, ℕ, ◌<◌, ℤ, pos, negsuc, int_lt, true, false, ◌&&◌, ◌||◌, ◌==◌, nat_lt, nat_le, if◌then◌else◌, List, length, slice_get, slice_index_or, Some}
-use Rattle.std.specs.List.{position_or_len}
 use Rattle.hold_parts.specs.declared.parts.Item.{Item}
-use Rattle.hold_parts.specs.Twins.{are_twins}
 use Rattle.hold_limits.specs.Layout.{Layout}
 use Rattle.hold_limits.specs.Lateral.{side_at}
 use Rattle.hold_limits.specs.Problem.{Problem}
 use Rattle.hold_limits.specs.BranchOrder.{ordered}
+use Rattle.hold_limits.specs.Twins.{first_twin}
 use Rattle.hold_limits.specs.Placement.{influence_at}
 use Rattle.hold_limits.specs.Enumeration.{is_accepted, exclude}
 use Rattle.hold_partial.specs.declared.demand.Demand.{Demand}
@@ -15,10 +14,6 @@ use Rattle.hold_partial.specs.declared.sides.Sides.{Sides}
 use Rattle.hold_partial.specs.Arrangement.{Ranked, ranked_of, at_rank}
 use Rattle.hold_reach.specs.Rules.{has_kind_at}
 use Rattle.position_set.specs.Sets.{has, Stands}
-
--- the rank of the first twin of a container, which may be itself, in branch order
-abbrev pub first_twin : Problem → Item → ℕ
-first_twin t item = position_or_len (λ other. are_twins other item) (ordered t.items)
 
 -- a container's mass, the positions that accept its kind, those that accept it, by number and by rank, and its class of twins
 pub record IsDemand (t : Problem) (ranks : List Ranked) (item : Item) (d : Demand) : Type 0 where

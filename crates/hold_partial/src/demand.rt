@@ -6,7 +6,7 @@ ghost use Rattle.hold_limits.specs.Faults.{IsLawfulHold};
 ghost use Rattle.hold_partial.specs.Arrangement.{IsByInfluence};
 ghost use Rattle.hold_reach.specs.Rules.{has_kind_at};
 ghost use Rattle.position_set.specs.Sets.{Stands};
-ghost use Rattle.hold_partial.specs.Tables.{first_twin, IsDemand, AreDemands};
+ghost use Rattle.hold_partial.specs.Tables.{IsDemand, AreDemands};
 
 use crate::arrangement::{Ranked, ranks_of};
 use arrayvec::ArrayVec;
@@ -65,18 +65,6 @@ fn accepting_positions(hold: &Hold, item: &Item) -> PositionSet
     set
 }
 
-fn first_twin(task: &Task, item: &Item) -> u8
-    ensures { result ≡ first_twin task.now item.now }
-{
-    let count = task.items().len();
-    for rank in 0..count {
-        if task.at_rank(rank).is_twin_of(item) {
-            return rank as u8;
-        }
-    }
-    count as u8
-}
-
 fn demand_of(task: &Task, ranks: &[Ranked], item: &Item) -> Demand
     requires { IsByInfluence task.now.hold ranks.now }
     ensures { IsDemand task.now ranks.now item.now result }
@@ -88,7 +76,7 @@ fn demand_of(task: &Task, ranks: &[Ranked], item: &Item) -> Demand
         of_kind: positions_of_kind(hold, item),
         accepting,
         accepting_ranks: ranks_of(accepting, ranks),
-        twins: first_twin(task, item),
+        twins: task.first_twin(item),
     }
 }
 

@@ -17,8 +17,8 @@ pub use chord::{Chord, mac_hundredths};
 pub use line::{Line, Point};
 pub use polyline::{Lines, ToPoint, first_fall};
 pub use spelling::{
-    NumFault, read_long_number, read_number, read_signed, read_ticks5, write_number, write_signed,
-    write_ticks2, write_ticks5,
+    NumFault, has_plain_front, read_long_number, read_number, read_signed, read_ticks5,
+    write_number, write_signed, write_ticks2, write_ticks5,
 };
 
 /// A mass in whole kilograms.

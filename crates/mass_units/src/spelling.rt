@@ -168,8 +168,8 @@ fn read_digits(text: &[u8]) -> Option<u64>
     Some(value)
 }
 
-/// The text is not empty, and a zero at its front is all of it.
-fn has_plain_front(text: &[u8]) -> bool
+/// Whether a text begins as a number does: it is not empty, and a zero at its front is all of it.
+pub fn has_plain_front(text: &[u8]) -> bool
     ensures { IsTrue result
         ↔ ((0 < length text.now) × (slice_index text.now 0 ≡ 48 → length text.now ≡ 1)) }
 {

@@ -1,6 +1,6 @@
 //! Readers of prices.
 
-ghost use Rattle.std.specs.Prelude.{◌≡◌, ◌≢◌, ◌≤◌, ◌<◌, ◌-◌, ◌^◌, ◌↔◌, ℕ, List, ◌++◌, length, slice_index, min, All, IsTrue, IfOk, IfSome, IfNone};
+ghost use Rattle.std.specs.Prelude.{◌≡◌, ◌≢◌, ◌≤◌, ◌<◌, ◌-◌, ◌^◌, ℕ, List, ◌++◌, length, min, All, IfOk, IfSome, IfNone};
 ghost use Rattle.std.specs.Str.Parse.{AllDigits, digits_value};
 ghost use Rattle.mass_units.specs.Spelling.{number_text};
 ghost use Rattle.hold_parts.specs.Spellings.{IsName};
@@ -16,7 +16,7 @@ ghost use Rattle.tree_certificate.specs.declared.parts.End.{End};
 use crate::parts::{End, Price, PriceList};
 use certificate::NameTable;
 use desk_base::NoMemory;
-use mass_units::read_number;
+use mass_units::{has_plain_front, read_number};
 use std::alloc::Global;
 use text_lines::{after_prefix, cut, split_once};
 
@@ -48,18 +48,6 @@ impl Holders<'_, '_> {
             Holders::Positions(names) => number_named(names, word),
             Holders::Numbers => read_number(word),
         }
-    }
-}
-
-/// The text is not empty, and a zero at its front is all of it.
-fn has_plain_front(text: &[u8]) -> bool
-    ensures { IsTrue result
-        ↔ ((0 < length text.now) × (slice_index text.now 0 ≡ 48 → length text.now ≡ 1)) }
-{
-    match text {
-        [] => false,
-        [b'0'] => true,
-        [first, ..] => *first != b'0',
     }
 }
 

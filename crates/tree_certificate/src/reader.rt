@@ -35,26 +35,11 @@ pub fn read_trees(alloc: Global, task: &Task, text: &[u8]) -> Result<TreeCertifi
     ensures complete { (c : ListedTrees) → Spells task.now.hold.positions text.now c
         → MatchResult result (λ got. listed_trees got ≡ c) (λ fault. fault ≡ TreeFault.NoMemory) }
 {
-    let positions = named_positions(task);
+    let positions = task.hold().named_positions();
     let Some(mut lines) = after_start(text) else {
         return Err(TreeFault::NoStart);
     };
     Ok(read_lines(alloc, positions, &mut lines)?)
-}
-
-/// The positions of the task's hold. Each has a name, as its type says.
-fn named_positions(task: &Task) -> &[Position]
-    ensures value { result.now ≡ task.now.hold.positions }
-    ensures few { length result.now ≤ 64 }
-    ensures named { All (λ (q : Position). IsName q.name) result.now }
-    ensures differ { AllPairs (λ (a b : Position). a.name ≢ b.name) result.now }
-{
-    let positions = task.hold().positions();
-    // What is known of a name is known once it is read.
-    for position in positions {
-        let _name = position.name.bytes();
-    }
-    positions
 }
 
 /// The lines after the first line `CERTIFICATE 3`. None where there is no such line.

@@ -1,7 +1,7 @@
 //! Whether a claim holds, and the ticks that its trees are about.
 
 ghost use Rattle.std.specs.Prelude.{◌≡◌, ◌↔◌, ◌≤◌, IfOk, IfErr, IfSome, IsTrue, false, length};
-ghost use Rattle.hold_limits.specs.Placement.{KeepsLateralLimit, IsAdmissible, distance};
+ghost use Rattle.hold_limits.specs.Placement.{IsAdmissible, distance};
 ghost use Rattle.price_trees.specs.Narrowing.{window, ticks_within};
 ghost use Rattle.certificate.specs.Evidence.{claimed};
 ghost use Rattle.choice_prices.specs.Pricing.{ticks_of};
@@ -12,9 +12,7 @@ ghost use Rattle.tree_checker.specs.declared.rejection.TreeRejection.TheVariants
 
 use crate::rejection::TreeRejection;
 use certificate::Claim;
-use hold_limits::{
-    Path, Task, hold_index_of, is_in_window, is_sound, lateral_difference_of, outcome,
-};
+use hold_limits::{Path, Task, is_admissible, outcome};
 use hold_reach::Span;
 use tree_certificate::TreeCertificate;
 
@@ -34,25 +32,6 @@ pub fn claims_path(certificate: &TreeCertificate) -> bool
         Claim::Best(_) => true,
         Claim::NoneFits => false,
     }
-}
-
-/// Whether the lateral difference of the path is within the lateral limit of the hold.
-fn keeps_lateral_limit(task: &Task, path: &[u8]) -> bool
-    requires { length path.now ≤ length task.now.items }
-    ensures { IsTrue result ↔ KeepsLateralLimit task.now path.now }
-{
-    let difference = lateral_difference_of(task, path);
-    task.hold().is_within_lateral(difference)
-}
-
-/// Whether the path is admissible.
-fn is_admissible(task: &Task, path: &[u8]) -> bool
-    ensures { IsTrue result ↔ IsAdmissible task.now path.now }
-{
-    is_sound(task, path)
-        && path.len() == task.items().len()
-        && is_in_window(task, hold_index_of(task, path))
-        && keeps_lateral_limit(task, path)
 }
 
 /// The claimed path with its distance, if one is claimed. It is refused where it is not admissible.

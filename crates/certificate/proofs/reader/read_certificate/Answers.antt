@@ -1,6 +1,7 @@
-use Rattle.std.proofs.Common.{◌≡◌, ℕ, List, subst, lit<}
+use Rattle.std.proofs.Common.{◌≡◌, ℕ, List, subst, ap, ◌∙◌, lit<}
 use Rattle.std.proofs.lemmas.Result.{err_from_is_err_and}
 use Rattle.hold_parts.specs.declared.parts.Position.{Position}
+use Rattle.hold_limits.specs.Layout.{Layout}
 use Rattle.text_lines.specs.Lines.{text_of}
 use Rattle.text_lines.specs.Grammar.{Fails}
 use Rattle.certificate.specs.CertificateText.{evidence_lines, IsSpelled}
@@ -24,7 +25,7 @@ returns-in_err-read_evidence-clause-refused c =
     let rest = c.in-Some.lines.rest.now in
     let found = c.in-Some.ensures.found in
     let Refused : List Position → ℕ → Type 0 = λ qs n. Fails (AreEvidence qs) rest n fault in
-    let same = c.named_positions-positions.ensures.value in
+    let same = c.named_positions-positions.ensures.value ∙ ap (λ (h : Layout). h.positions) c.hold.ensures.value in
     let fails = subst (Refused c.args.task.now.hold.positions) found.2 (subst (λ qs. Refused qs c.in-Some.lines.number) same c.in_err-read_evidence.ensures.refused) in
     let p = err_from_is_err_and c.from_residual.result c.from_residual.ensures.1 in
     rw (p.1, p.2) (wrong_lines found.0 rest fault found.1 fails)
@@ -37,7 +38,7 @@ returns-in_err-read_evidence-clause-complete c =
     let rest = c.in-Some.lines.rest.now in
     let found = c.in-Some.ensures.found in
     let Refused : List Position → ℕ → Type 0 = λ qs n. Fails (AreEvidence qs) rest n fault in
-    let same = c.named_positions-positions.ensures.value in
+    let same = c.named_positions-positions.ensures.value ∙ ap (λ (h : Layout). h.positions) c.hold.ensures.value in
     let fails = subst (Refused ps) found.2 (subst (λ qs. Refused qs c.in-Some.lines.number) same c.in_err-read_evidence.ensures.refused) in
     let names : AreNames ps = subst AreNames same c.named_positions-positions.ensures.named in
     let p = err_from_is_err_and c.from_residual.result c.from_residual.ensures.1 in
@@ -50,7 +51,7 @@ returns-clause-complete c =
     let got = c.in_ok-read_evidence.field-0 in
     let rest = c.in-Some.lines.rest.now in
     let found = c.in-Some.ensures.found in
-    let same = c.named_positions-positions.ensures.value in
+    let same = c.named_positions-positions.ensures.value ∙ ap (λ (h : Layout). h.positions) c.hold.ensures.value in
     let names : AreNames ps = subst AreNames same c.named_positions-positions.ensures.named in
     let Read : List Position → Type 0 = λ qs. IsSpelled qs got × (rest ≡ text_of (evidence_lines qs got)) in
     let read = subst Read same c.in_ok-read_evidence.ensures.read in

@@ -3,7 +3,7 @@ use Rattle.std.proofs.lemmas.List.{take_all}
 use Rattle.hold_limits.specs.BranchOrder.{ordered}
 use Rattle.hold_limits.proofs.BranchOrderLemmas.{length-ordered}
 use Rattle.hold_limits.proofs.LawfulBounds.{lawful-bounds}
-use Rattle.hold_choices.specs.Conflicts.{first_twin}
+use Rattle.hold_limits.specs.Twins.{first_twin}
 use Rattle.hold_choices.proofs.ListLemmas.{map-more}
 use Rattle.hold_choices.proofs.conflicts.classes_of.Goals as goal
 

@@ -1,6 +1,6 @@
 use Rattle.std.proofs.Common.{◌≡◌, length, map, take}
 use Rattle.hold_limits.specs.BranchOrder.{ordered}
-use Rattle.hold_choices.specs.Conflicts.{first_twin}
+use Rattle.hold_limits.specs.Twins.{first_twin}
 use Rattle.hold_choices.proofs.conflicts.classes_of.Given as goal
 
 abbrev pub invariant-loop-rank : goal.invariant-loop-rank

@@ -7,7 +7,7 @@ use Rattle.position_set.specs.declared.set.PositionSet.{PositionSet}
 use Rattle.position_set.specs.Sets.{has, members}
 use Rattle.price_trees.specs.Prices.{Candidate, candidates}
 use Rattle.price_trees.specs.Narrowing.{leaves_later, leaves_earlier, left_by}
-use Rattle.hold_choices.specs.Conflicts.{first_twin}
+use Rattle.hold_limits.specs.Twins.{first_twin}
 use Rattle.hold_choices.specs.Passing.{leaves_class_later, is_taken}
 use Rattle.hold_choices.proofs.ClassLemmas.{length-classes, class-is, class-known}
 use Rattle.hold_choices.proofs.ListLemmas.{take-at, length-zip}

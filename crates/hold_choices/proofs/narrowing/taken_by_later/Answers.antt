@@ -9,7 +9,7 @@ use Rattle.position_set.specs.declared.set.PositionSet.{PositionSet}
 use Rattle.position_set.specs.Sets.{has, members}
 use Rattle.price_trees.specs.Prices.{Candidate, candidates}
 use Rattle.price_trees.specs.Narrowing.{leaves_earlier}
-use Rattle.hold_choices.specs.Conflicts.{first_twin}
+use Rattle.hold_limits.specs.Twins.{first_twin}
 use Rattle.hold_choices.specs.Passing.{leaves_class_earlier, is_taken}
 use Rattle.hold_choices.proofs.ClassLemmas.{length-classes, class-is, class-known}
 use Rattle.hold_choices.proofs.ListLemmas.{drop-at, each-set_down, length-zip}

@@ -3,7 +3,7 @@ use Rattle.std.proofs.lemmas.Int.{ints, to_z-of_z}
 use Rattle.hold_limits.specs.Layout.{Layout}
 use Rattle.hold_limits.specs.Lateral.{IsWithinLateral}
 use Rattle.hold_limits.specs.Placement.{lateral_difference}
-use Rattle.cert_checker.proofs.claim.keeps_lateral_limit.Goals as goal
+use Rattle.hold_limits.proofs.balance.keeps_lateral_limit.Goals as goal
 
 pub returns : goal.returns
 returns c =

@@ -1,11 +1,10 @@
-use Rattle.std.proofs.Common.{◌≢◌, ◌∙◌, ap, AllPairs, take, get_or, All, sym, subst, arith}
+use Rattle.std.proofs.Common.{◌≢◌, AllPairs, take, get_or, All, sym, subst, arith}
 use Rattle.std.proofs.lemmas.List.{take_all, take_more}
 use Rattle.std.proofs.lemmas.List.Elements.{All-push}
-use Rattle.hold_limits.specs.Layout.{Layout}
 use Rattle.hold_limits.proofs.LawfulBounds.{hold-bounds}
 use Rattle.hold_parts.specs.Spellings.{IsName}
 use Rattle.hold_parts.specs.declared.parts.Position.{Position}
-use Rattle.tree_certificate.proofs.reader.named_positions.Goals as goal
+use Rattle.hold_limits.proofs.hold.Hold.named_positions.Goals as goal
 
 pub loop-position-preserved : goal.loop-position-preserved
 loop-position-preserved c =
@@ -22,4 +21,4 @@ returns-clause-named c =
 
 pub returns-clause-differ : goal.returns-clause-differ
 returns-clause-differ c =
-    subst (AllPairs (λ (a b : Position). a.name ≢ b.name)) (sym (c.positions-positions.ensures.value ∙ ap (λ (h : Layout). h.positions) c.hold.ensures.value)) (hold-bounds c.args.task.now.hold c.hold.ensures.lawful.hold).names
+    subst (AllPairs (λ (a b : Position). a.name ≢ b.name)) (sym c.positions-positions.ensures.value) (hold-bounds c.args.self.now c.positions-positions.ensures.lawful).names

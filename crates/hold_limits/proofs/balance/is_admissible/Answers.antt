@@ -1,8 +1,8 @@
 use Rattle.std.proofs.Common.{◌≤ℤ◌, length, ap, sym, ◌∙◌, subst}
 use Rattle.std.proofs.lemmas.Bool.{false≢true}
 use Rattle.std.proofs.lemmas.Bool.Decides.{Decides-eqb}
-use Rattle.tree_checker.proofs.claim.is_admissible.Goals.{then-is_sound, else-is_sound, then-path-items, else-path-items}
-use Rattle.tree_checker.proofs.claim.is_admissible.Goals as goal
+use Rattle.hold_limits.proofs.balance.is_admissible.Goals.{then-is_sound, else-is_sound, then-path-items, else-path-items}
+use Rattle.hold_limits.proofs.balance.is_admissible.Goals as goal
 
 pub returns-then-is_in_window : goal.returns-then-is_in_window
 returns-then-is_in_window c =
