@@ -1,6 +1,7 @@
 // The route of each path, and targets that have none.
 use desk_routes::{DeskRouter, Route, edition_in, key_in, read_edition};
 use std::alloc::Global;
+use std::str;
 use std::test::Fail;
 
 /// Targets, each with the name of its route.
@@ -71,15 +72,39 @@ fn each_path_has_its_route(rt: HostRuntime) -> Result<(), Fail> {
     Ok(())
 }
 
+/// The key and the edition in a path.
+fn parts_in(alloc: Global, path: &str) -> Result<String, Fail> {
+    let key = str::from_utf8(key_in(path.as_bytes()))?;
+    let edition = str::from_utf8(edition_in(path.as_bytes()))?;
+    Ok(format!(in alloc; "{key} {edition}")?)
+}
+
 #[test]
 fn keys_and_editions_are_parts_of_a_path(rt: HostRuntime) -> Result<(), Fail> {
-    assert_eq!(rt; key_in(b"/flights/XX210-12/dry/7"), b"XX210-12".as_slice());
-    assert_eq!(rt; key_in(b"/flights/XX210-12"), b"XX210-12".as_slice());
-    assert_eq!(rt; edition_in(b"/flights/XX210-12/dry/7"), b"7".as_slice());
-    assert_eq!(rt; edition_in(b"/flights/XX210-12/sheet"), b"".as_slice());
-    assert_eq!(rt; read_edition(b"4294967295"), Some(4_294_967_295));
-    for text in ["0", "4294967296", "07", "-1", "", "7x"] {
-        assert_eq!(rt; read_edition(text.as_bytes()), None, "at {}", text);
+    let rows = [
+        ("/flights/XX210-12/dry/7", "XX210-12 7"),
+        ("/flights/XX210-12/sheet", "XX210-12 "),
+        ("/flights/XX210-12", "XX210-12 "),
+    ];
+    for (path, due) in rows {
+        assert_eq!(rt; parts_in(rt.alloc(), path)?.as_str(), due);
     }
     Ok(())
+}
+
+/// The first of these texts that is an edition.
+fn first_edition(texts: &[&str]) -> Option<u32> {
+    for text in texts {
+        if let Some(edition) = read_edition(text.as_bytes()) {
+            return Some(edition);
+        }
+    }
+    None
+}
+
+#[test]
+fn editions_have_their_limits(rt: HostRuntime) {
+    let others = ["0", "4294967296", "07", "-1", "", "7x"];
+    assert_eq!(rt; first_edition(&others), None);
+    assert_eq!(rt; first_edition(&["4294967295"]), Some(4_294_967_295));
 }

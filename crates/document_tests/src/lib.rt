@@ -6,3 +6,5 @@
 mod load_messages;
 #[cfg(test)]
 mod loadsheets;
+#[cfg(test)]
+mod sheets;

@@ -1,14 +1,13 @@
 // The worked messages written and read, what is refused, and messages of random sheets read back.
-use aircraft_file::{Registration, Version};
+use crate::sheets::{next, worked};
 use hold_limits::{Name, UldId};
-use last_minute::{Day, FlightName, Leg, Lmcs, Place, PlaceList, Sheet, Station};
-use ldm_cpm::{CpmPlace, Head, MsgFault, read_cpm, read_ldm, write_cpm, write_ldm};
-use mass_limits::{Limiting, Masses, Underload};
-use mass_units::{Kg, Ticks};
+use last_minute::{Place, PlaceList, Sheet};
+use ldm_cpm::{Cpm, CpmPlace, Head, Ldm, MsgFault, read_cpm, read_ldm, write_cpm, write_ldm};
+use mass_units::Kg;
 use std::alloc::Global;
+use std::str;
 use std::test::Fail;
 use telex::{Part, TelexFault};
-use trim::{Balance, Dry, Fuel, Regulated};
 
 const LDM: &str = "LDM
 XX210/12.DAIAB.Y150.2/4
@@ -24,96 +23,59 @@ XX210/12.DAIAB.Y150
 -51/ARN/320
 ";
 
-fn leg() -> Option<Leg> {
-    Some(Leg {
-        flight: FlightName::read(b"XX210")?,
-        day: Day::read(b"12")?,
-        registration: Registration::read(b"DAIAB")?,
-        origin: Station::read(b"FRA")?,
-        destination: Station::read(b"ARN")?,
-    })
+/// A row of places: a name, the number of its compartment, the identity of its container, if it has one, and a mass.
+type Row = (&'static [u8], u8, Option<&'static [u8]>, u32);
+
+/// The places of the worked sheet.
+const WORKED: [Row; 5] = [
+    (b"11", 1, Some(b"AKE10001XX"), 1_000),
+    (b"12", 1, None, 0),
+    (b"41", 4, None, 0),
+    (b"42", 4, Some(b"AKE10002XX"), 800),
+    (b"51", 5, None, 320),
+];
+
+/// Places with containers, a loose load, and positions with nothing, in compartments that do not rise.
+const ODD: [Row; 7] = [
+    (b"41", 4, Some(b"AKE10001XX"), 0),
+    (b"11", 1, Some(b"AKE1002XX"), 0),
+    (b"12", 1, Some(b"PMC100039K"), 0),
+    (b"13", 1, None, 0),
+    (b"0A", 0, None, 0),
+    (b"9", 9, Some(b"AKE10005XX"), 0),
+    (b"51", 5, None, 0),
+];
+
+fn identity(id: Option<&[u8]>) -> Option<Option<UldId>> {
+    match id {
+        Some(id) => Some(Some(UldId::read(id)?)),
+        None => Some(None),
+    }
 }
 
-fn place(name: &[u8], compartment: u8, id: Option<&[u8]>, mass: u32) -> Option<Place> {
-    let id = match id {
-        Some(id) => Some(UldId::read(id)?),
-        None => None,
-    };
+fn place(row: &Row) -> Option<Place> {
+    let (name, compartment, id, mass) = *row;
     Some(Place {
         name: Name::read(name)?,
         compartment,
         bulk: compartment == 5,
-        id,
+        id: identity(id)?,
         mass: Kg(mass),
     })
 }
 
-fn balance() -> Balance {
-    Balance {
-        masses: Masses {
-            ramp: Kg(63_780),
-            zero_fuel: Kg(54_580),
-            take_off: Kg(63_580),
-            landing: Kg(57_580),
-        },
-        underload: Underload {
-            kg: 7_920,
-            limiting: Limiting::ZeroFuel,
-        },
-        zero_fuel: Ticks(5_166_000),
-        take_off: Ticks(5_045_000),
-        landing: Ticks(5_165_000),
+fn places(alloc: Global, rows: &[Row]) -> Result<Vec<Place>, Fail> {
+    let mut places = Vec::new(alloc);
+    for row in rows {
+        places.push(place(row).ok_or("a place is not spelled")?)?;
     }
-}
-
-fn sheet_of(alloc: Global, persons: [u32; 3], places: Vec<Place>) -> Option<Sheet> {
-    let [adults, children, infants] = persons;
-    Some(Sheet {
-        leg: leg()?,
-        version: Version::read(b"Y150")?,
-        edition: 7,
-        dry: Dry {
-            mass: Kg(42_000),
-            index: Ticks(5_000_000),
-            cockpit: 2,
-            attendants: 4,
-        },
-        fuel: Fuel {
-            taxi: Kg(200),
-            take_off: Kg(9_000),
-            trip: Kg(6_000),
-        },
-        regulated: Regulated {
-            take_off: Kg(73_500),
-            landing: Kg(66_000),
-        },
-        max_zero_fuel: Kg(62_500),
-        adults,
-        children,
-        infants,
-        cabin_mass: Kg(10_460),
-        container_mass: Kg(1_800),
-        loose_mass: Kg(320),
-        balance: balance(),
-        mac: [2_579, 2_523, 2_574],
-        places: PlaceList::from(places),
-        lmcs: Lmcs::new(alloc),
-    })
+    Ok(places)
 }
 
 fn worked_sheet(alloc: Global) -> Result<Sheet, Fail> {
-    let rows: [(&[u8], u8, Option<&[u8]>, u32); 5] = [
-        (b"11", 1, Some(b"AKE10001XX"), 1_000),
-        (b"12", 1, None, 0),
-        (b"41", 4, None, 0),
-        (b"42", 4, Some(b"AKE10002XX"), 800),
-        (b"51", 5, None, 320),
-    ];
-    let mut places = Vec::new(alloc);
-    for (name, compartment, id, mass) in rows {
-        places.push(place(name, compartment, id, mass).ok_or("a place is not spelled")?)?;
-    }
-    Ok(sheet_of(alloc, [120, 10, 3], places).ok_or("a text is not spelled")?)
+    let mut sheet = worked(alloc).ok_or("a text is not spelled")?;
+    sheet.places = PlaceList::from(places(alloc, &WORKED)?);
+    Ok(sheet)
 }
 
 #[test]
@@ -124,63 +86,78 @@ fn worked_messages_are_written(rt: HostRuntime) -> Result<(), Fail> {
     Ok(())
 }
 
-fn is_part(part: &Part<'_>, before: u8, text: &[u8], at: usize) -> bool {
-    part.before == before && part.text == text && part.at == at
+/// What is read of the worked load message: its parts, each with its mark and where it stands, and its numbers.
+const LDM_PARTS: &str = "XX210@4 /12@10 .DAIAB@13 .Y150@19 crew Some((2, 4))
+ARN@29 120/10/3 [(1, Kg(1000)), (4, Kg(800)), (5, Kg(320))]
+";
+
+/// What is read of the worked container message.
+const CPM_PARTS: &str = "XX210@4 /12@10 .DAIAB@13 .Y150@19 crew None
+11@25 /AKE10001XX@28 /ARN@39 1000
+12@49 0
+41@55 0
+42@61 /AKE10002XX@64 /ARN@75 800
+51@84 /ARN@87 320
+";
+
+fn push_part(out: &mut String, part: &Part<'_>) -> Result<(), Fail> {
+    if part.before != 0 {
+        out.push(char::from(part.before))?;
+    }
+    write!(out, "{}@{} ", str::from_utf8(part.text)?, part.at)?;
+    Ok(())
 }
 
-fn is_worked_head(head: &Head<'_>, crew: Option<(u8, u8)>) -> bool {
-    is_part(&head.flight, 0, b"XX210", 4)
-        && is_part(&head.day, b'/', b"12", 10)
-        && is_part(&head.registration, b'.', b"DAIAB", 13)
-        && is_part(&head.version, b'.', b"Y150", 19)
-        && head.crew == crew
+fn push_head(out: &mut String, head: &Head<'_>) -> Result<(), Fail> {
+    push_part(out, &head.flight)?;
+    push_part(out, &head.day)?;
+    push_part(out, &head.registration)?;
+    push_part(out, &head.version)?;
+    writeln!(out, "crew {:?}", head.crew)?;
+    Ok(())
+}
+
+fn push_place(out: &mut String, place: &CpmPlace<'_>) -> Result<(), Fail> {
+    push_part(out, &place.name)?;
+    if let Some(id) = &place.id {
+        push_part(out, id)?;
+    }
+    if let Some(destination) = &place.destination {
+        push_part(out, destination)?;
+    }
+    writeln!(out, "{}", place.mass.0)?;
+    Ok(())
+}
+
+fn push_load_message(out: &mut String, m: &Ldm<'_>) -> Result<(), Fail> {
+    push_head(out, &m.head)?;
+    push_part(out, &m.destination)?;
+    let loads = m.loads.as_slice();
+    writeln!(out, "{}/{}/{} {loads:?}", m.adults, m.children, m.infants)?;
+    Ok(())
+}
+
+fn push_container_message(out: &mut String, m: &Cpm<'_>) -> Result<(), Fail> {
+    push_head(out, &m.head)?;
+    for place in m.places.as_slice() {
+        push_place(out, place)?;
+    }
+    Ok(())
 }
 
 #[test]
 fn a_load_message_is_read_with_its_parts(rt: HostRuntime) -> Result<(), Fail> {
-    let Ok(m) = read_ldm(rt.alloc(), LDM.as_bytes()) else {
-        return Err(Fail::new("the message is refused"));
-    };
-    assert!(rt; is_worked_head(&m.head, Some((2, 4))));
-    assert!(rt; is_part(&m.destination, 0, b"ARN", 29));
-    assert_eq!(rt; (m.adults, m.children, m.infants), (120, 10, 3));
-    assert_eq!(rt;
-        m.loads.as_slice(),
-        [(1, Kg(1_000)), (4, Kg(800)), (5, Kg(320))].as_slice()
-    );
+    let mut out = String::new(rt.alloc());
+    push_load_message(&mut out, &read_ldm(rt.alloc(), LDM.as_bytes())?)?;
+    assert_eq!(rt; out.as_str(), LDM_PARTS);
     Ok(())
 }
 
 #[test]
 fn a_container_message_is_read_with_its_parts(rt: HostRuntime) -> Result<(), Fail> {
-    let Ok(m) = read_cpm(rt.alloc(), CPM.as_bytes()) else {
-        return Err(Fail::new("the message is refused"));
-    };
-    assert!(rt; is_worked_head(&m.head, None));
-    let [first, second, _, _, last] = m.places.as_slice() else {
-        return Err(Fail::new("there are five places"));
-    };
-    assert!(rt; is_part(&first.name, 0, b"11", 25));
-    assert!(rt;
-        first
-            .id
-            .is_some_and(|id| is_part(&id, b'/', b"AKE10001XX", 28))
-    );
-    assert!(rt;
-        first
-            .destination
-            .is_some_and(|to| is_part(&to, b'/', b"ARN", 39))
-    );
-    assert_eq!(rt; first.mass, Kg(1_000));
-    assert!(rt; is_part(&second.name, 0, b"12", 49));
-    assert!(rt; second.id.is_none() && second.destination.is_none());
-    assert_eq!(rt; second.mass, Kg(0));
-    assert!(rt; last.id.is_none());
-    assert!(rt;
-        last.destination
-            .is_some_and(|to| is_part(&to, b'/', b"ARN", 87))
-    );
-    assert_eq!(rt; last.mass, Kg(320));
+    let mut out = String::new(rt.alloc());
+    push_container_message(&mut out, &read_cpm(rt.alloc(), CPM.as_bytes())?)?;
+    assert_eq!(rt; out.as_str(), CPM_PARTS);
     Ok(())
 }
 
@@ -235,36 +212,20 @@ fn wrong_container_messages_are_refused(rt: HostRuntime) {
     }
 }
 
-// The next of a row of numbers that look random, below 2 ^ 24.
-fn next(seed: &mut u64) -> u32 {
-    *seed = seed
-        .wrapping_mul(6_364_136_223_846_793_005)
-        .wrapping_add(1_442_695_040_888_963_407);
-    (*seed >> 40) as u32
-}
-
-// A sheet with containers, a loose load, and positions with nothing, in compartments that do not rise.
+/// A sheet with these odd places and random figures.
 fn random_sheet(alloc: Global, seed: &mut u64) -> Result<Sheet, Fail> {
-    let rows: [(&[u8], u8, Option<&[u8]>); 7] = [
-        (b"41", 4, Some(b"AKE10001XX")),
-        (b"11", 1, Some(b"AKE1002XX")),
-        (b"12", 1, Some(b"PMC100039K")),
-        (b"13", 1, None),
-        (b"0A", 0, None),
-        (b"9", 9, Some(b"AKE10005XX")),
-        (b"51", 5, None),
-    ];
-    let mut places = Vec::new(alloc);
-    for (name, compartment, id) in rows {
-        let mass = if id.is_some() || compartment == 5 {
-            next(seed) & 0xFFFF
-        } else {
-            0
-        };
-        places.push(place(name, compartment, id, mass).ok_or("a place is not spelled")?)?;
+    let mut places = places(alloc, &ODD)?;
+    for place in &mut places {
+        if place.id.is_some() || place.bulk {
+            place.mass = Kg(next(seed) & 0xFFFF);
+        }
     }
-    let persons = [next(seed), next(seed), next(seed)];
-    Ok(sheet_of(alloc, persons, places).ok_or("a text is not spelled")?)
+    let mut sheet = worked(alloc).ok_or("a text is not spelled")?;
+    sheet.places = PlaceList::from(places);
+    sheet.adults = next(seed);
+    sheet.children = next(seed);
+    sheet.infants = next(seed);
+    Ok(sheet)
 }
 
 fn mass_of(places: &[Place], compartment: u8) -> u32 {
@@ -277,20 +238,29 @@ fn mass_of(places: &[Place], compartment: u8) -> u32 {
     mass
 }
 
+fn are_loads(loads: &[(u8, Kg)], places: &[Place]) -> bool {
+    for (compartment, mass) in loads {
+        if mass.0 != mass_of(places, *compartment) {
+            return false;
+        }
+    }
+    true
+}
+
+fn is_load_message(m: &Ldm<'_>, sheet: &Sheet) -> bool {
+    m.adults == sheet.adults
+        && m.children == sheet.children
+        && m.infants == sheet.infants
+        && m.destination.text == b"ARN".as_slice()
+        && are_loads(m.loads.as_slice(), sheet.places.as_slice())
+}
+
 fn is_read_back(alloc: Global, sheet: &Sheet) -> Result<bool, Fail> {
     let text = write_ldm(alloc, sheet)?;
-    let Ok(m) = read_ldm(alloc, text.as_slice()) else {
-        return Ok(false);
-    };
-    let places = sheet.places.as_slice();
-    Ok(
-        (m.adults, m.children, m.infants) == (sheet.adults, sheet.children, sheet.infants)
-            && m.destination.text == b"ARN".as_slice()
-            && m.loads
-                .as_slice()
-                .iter()
-                .all(|load| load.1 == Kg(mass_of(places, load.0))),
-    )
+    match &read_ldm(alloc, text.as_slice()) {
+        Ok(m) => Ok(is_load_message(m, sheet)),
+        Err(_) => Ok(false),
+    }
 }
 
 fn is_same_place(read: &CpmPlace<'_>, place: &Place) -> bool {
@@ -302,20 +272,21 @@ fn is_same_place(read: &CpmPlace<'_>, place: &Place) -> bool {
     id && read.name.text == place.name.bytes() && read.mass == place.mass
 }
 
+fn are_same_places(read: &[CpmPlace<'_>], places: &[Place]) -> bool {
+    for (read, place) in read.iter().zip(places) {
+        if !is_same_place(read, place) {
+            return false;
+        }
+    }
+    read.len() == places.len()
+}
+
 fn places_are_read_back(alloc: Global, sheet: &Sheet) -> Result<bool, Fail> {
     let text = write_cpm(alloc, sheet)?;
-    let Ok(m) = read_cpm(alloc, text.as_slice()) else {
-        return Ok(false);
-    };
-    let read = m.places.as_slice();
-    let places = sheet.places.as_slice();
-    Ok(
-        read.len() == places.len()
-            && read
-                .iter()
-                .zip(places)
-                .all(|(read, place)| is_same_place(read, place)),
-    )
+    match &read_cpm(alloc, text.as_slice()) {
+        Ok(m) => Ok(are_same_places(m.places.as_slice(), sheet.places.as_slice())),
+        Err(_) => Ok(false),
+    }
 }
 
 #[test]

@@ -1,7 +1,8 @@
 // The worked loadsheet, its corners, and sheets of random figures beside a plain second writer.
-use aircraft_file::{Registration, Version};
+use crate::sheets::{leg, next, worked};
+use aircraft_file::Version;
 use hold_limits::Name;
-use last_minute::{Day, FlightName, Leg, Lmc, Lmcs, PlaceList, Sheet, Station};
+use last_minute::{Lmc, Lmcs, PlaceList, Sheet};
 use loadsheet_text::write_sheet;
 use mass_limits::{Limiting, Masses, Underload};
 use mass_units::{Kg, Ticks};
@@ -53,68 +54,6 @@ LMC BULK 51 -500/-2
 END
 ";
 
-fn leg() -> Option<Leg> {
-    Some(Leg {
-        flight: FlightName::read(b"XX210")?,
-        day: Day::read(b"12")?,
-        registration: Registration::read(b"DAIAB")?,
-        origin: Station::read(b"FRA")?,
-        destination: Station::read(b"ARN")?,
-    })
-}
-
-fn worked_balance() -> Balance {
-    Balance {
-        masses: Masses {
-            ramp: Kg(63_780),
-            zero_fuel: Kg(54_580),
-            take_off: Kg(63_580),
-            landing: Kg(57_580),
-        },
-        underload: Underload {
-            kg: 7_920,
-            limiting: Limiting::ZeroFuel,
-        },
-        zero_fuel: Ticks(5_166_000),
-        take_off: Ticks(5_044_950),
-        landing: Ticks(5_165_000),
-    }
-}
-
-fn worked(alloc: Global) -> Option<Sheet> {
-    Some(Sheet {
-        leg: leg()?,
-        version: Version::read(b"Y150")?,
-        edition: 7,
-        dry: Dry {
-            mass: Kg(42_000),
-            index: Ticks(5_000_000),
-            cockpit: 2,
-            attendants: 4,
-        },
-        fuel: Fuel {
-            taxi: Kg(200),
-            take_off: Kg(9_000),
-            trip: Kg(6_000),
-        },
-        regulated: Regulated {
-            take_off: Kg(73_500),
-            landing: Kg(66_000),
-        },
-        max_zero_fuel: Kg(62_500),
-        adults: 120,
-        children: 10,
-        infants: 3,
-        cabin_mass: Kg(10_460),
-        container_mass: Kg(1_800),
-        loose_mass: Kg(320),
-        balance: worked_balance(),
-        mac: [2_579, 2_523, 2_574],
-        places: PlaceList::from(Vec::new(alloc)),
-        lmcs: Lmcs::new(alloc),
-    })
-}
-
 #[test]
 fn the_worked_loadsheet_is_written(rt: HostRuntime) -> Result<(), Fail> {
     let sheet = worked(rt.alloc()).ok_or("a text is not spelled")?;
@@ -139,30 +78,34 @@ fn corner_changes(alloc: Global) -> Result<Lmcs, Fail> {
     Ok(changes)
 }
 
+fn corner_balance() -> Balance {
+    Balance {
+        masses: Masses {
+            ramp: Kg(63_780),
+            zero_fuel: Kg(54_580),
+            take_off: Kg(63_580),
+            landing: Kg(57_580),
+        },
+        underload: Underload {
+            kg: -1,
+            limiting: Limiting::Landing,
+        },
+        zero_fuel: Ticks(-500),
+        take_off: Ticks(100_500),
+        landing: Ticks(-1_000_499),
+    }
+}
+
 #[test]
 fn corners_are_written(rt: HostRuntime) -> Result<(), Fail> {
     let mut sheet = worked(rt.alloc()).ok_or("a text is not spelled")?;
     sheet.dry.index = Ticks(-499);
-    sheet.balance.underload = Underload {
-        kg: -1,
-        limiting: Limiting::Landing,
-    };
-    sheet.balance.zero_fuel = Ticks(-500);
-    sheet.balance.take_off = Ticks(100_500);
-    sheet.balance.landing = Ticks(-1_000_499);
+    sheet.balance = corner_balance();
     sheet.mac = [-5, 0, -1_230];
     sheet.lmcs = corner_changes(rt.alloc())?;
     let text = String::from_utf8(write_sheet(rt.alloc(), &sheet)?)?;
     assert_eq!(rt; text.as_str(), CORNERS);
     Ok(())
-}
-
-// The next of a row of numbers that look random, below 2 ^ 24.
-fn next(seed: &mut u64) -> u32 {
-    *seed = seed
-        .wrapping_mul(6_364_136_223_846_793_005)
-        .wrapping_add(1_442_695_040_888_963_407);
-    (*seed >> 40) as u32
 }
 
 // A number from -8,388,608 to 8,388,607, or one of those nearest to zero.
@@ -243,76 +186,102 @@ fn balance(seed: &mut u64) -> Balance {
     }
 }
 
-fn random_sheet(alloc: Global, seed: &mut u64) -> Result<Sheet, Fail> {
-    let mut sheet = worked(alloc).ok_or("a text is not spelled")?;
-    sheet.edition = next(seed);
-    sheet.dry.mass = Kg(next(seed));
-    sheet.dry.index = index(seed);
-    sheet.fuel.take_off = Kg(next(seed));
-    sheet.fuel.trip = Kg(next(seed));
-    sheet.regulated.take_off = Kg(next(seed));
-    sheet.regulated.landing = Kg(next(seed));
-    sheet.max_zero_fuel = Kg(next(seed));
-    sheet.adults = next(seed);
-    sheet.children = next(seed);
-    sheet.infants = next(seed);
-    sheet.cabin_mass = Kg(next(seed));
-    sheet.container_mass = Kg(next(seed));
-    sheet.loose_mass = Kg(next(seed));
-    sheet.balance = balance(seed);
-    sheet.mac = [
-        i128::from(signed(seed)),
-        i128::from(signed(seed)),
-        i128::from(signed(seed)),
-    ];
-    sheet.lmcs = random_changes(alloc, seed)?;
-    Ok(sheet)
+fn kg(seed: &mut u64) -> Kg {
+    Kg(next(seed))
 }
 
-// A plain second writer: each line as it is printed in the example, with the figures in their places.
+// The numbers of cockpit and attendants are not written.
+fn dry(seed: &mut u64) -> Dry {
+    Dry {
+        mass: kg(seed),
+        index: index(seed),
+        cockpit: 2,
+        attendants: 4,
+    }
+}
+
+// The fuel for taxiing is not written.
+fn fuel(seed: &mut u64) -> Fuel {
+    Fuel {
+        taxi: Kg(200),
+        take_off: kg(seed),
+        trip: kg(seed),
+    }
+}
+
+fn regulated(seed: &mut u64) -> Regulated {
+    Regulated {
+        take_off: kg(seed),
+        landing: kg(seed),
+    }
+}
+
+fn mac(seed: &mut u64) -> [i128; 3] {
+    [
+        i128::from(signed(seed)),
+        i128::from(signed(seed)),
+        i128::from(signed(seed)),
+    ]
+}
+
+fn random_sheet(alloc: Global, seed: &mut u64) -> Result<Sheet, Fail> {
+    Ok(Sheet {
+        leg: leg().ok_or("a leg is not spelled")?,
+        version: Version::read(b"Y150").ok_or("a version is not spelled")?,
+        edition: next(seed),
+        dry: dry(seed),
+        fuel: fuel(seed),
+        regulated: regulated(seed),
+        max_zero_fuel: kg(seed),
+        adults: next(seed),
+        children: next(seed),
+        infants: next(seed),
+        cabin_mass: kg(seed),
+        container_mass: kg(seed),
+        loose_mass: kg(seed),
+        balance: balance(seed),
+        mac: mac(seed),
+        places: PlaceList::from(Vec::new(alloc)),
+        lmcs: random_changes(alloc, seed)?,
+    })
+}
+
+// A plain second writer: the lines as they are printed in the example, with the figures in their places.
 fn plain_flight(out: &mut String, s: &Sheet) -> Result<(), Fail> {
     let persons = u64::from(s.adults) + u64::from(s.children);
     let traffic = u64::from(s.cabin_mass.0)
         .saturating_add(u64::from(s.container_mass.0))
         .saturating_add(u64::from(s.loose_mass.0));
-    writeln!(out, "LOADSHEET")?;
-    writeln!(out, "XX210/12.DAIAB.FRA.ARN")?;
-    writeln!(out, "EDNO {}", s.edition)?;
-    writeln!(out, "PAX {persons}/{}", s.infants)?;
-    writeln!(out, "CABIN {}", s.cabin_mass.0)?;
-    writeln!(out, "CONTAINERS {}", s.container_mass.0)?;
-    writeln!(out, "LOOSE {}", s.loose_mass.0)?;
-    writeln!(out, "TRAFFIC LOAD {traffic}")?;
+    writeln!(
+        out,
+        "LOADSHEET\nXX210/12.DAIAB.FRA.ARN\nEDNO {}\nPAX {persons}/{}\nCABIN {}\nCONTAINERS {}\nLOOSE {}\nTRAFFIC LOAD {traffic}",
+        s.edition, s.infants, s.cabin_mass.0, s.container_mass.0, s.loose_mass.0
+    )?;
     Ok(())
 }
 
 fn plain_masses(out: &mut String, s: &Sheet) -> Result<(), Fail> {
-    let b = &s.balance;
-    let [zero_fuel, take_off, landing] = match b.underload.limiting {
+    let m = &s.balance.masses;
+    let [zero_fuel, take_off, landing] = match s.balance.underload.limiting {
         Limiting::ZeroFuel => [" L", "", ""],
         Limiting::TakeOff => ["", " L", ""],
         Limiting::Landing => ["", "", " L"],
     };
-    let m = &b.masses;
-    writeln!(out, "DRY OPERATING WEIGHT {}", s.dry.mass.0)?;
     writeln!(
         out,
-        "ZERO FUEL WEIGHT {} MAX {}{zero_fuel}",
-        m.zero_fuel.0, s.max_zero_fuel.0
+        "DRY OPERATING WEIGHT {}\nZERO FUEL WEIGHT {} MAX {}{zero_fuel}",
+        s.dry.mass.0, m.zero_fuel.0, s.max_zero_fuel.0
     )?;
-    writeln!(out, "TAKE OFF FUEL {}", s.fuel.take_off.0)?;
     writeln!(
         out,
-        "TAKE OFF WEIGHT {} MAX {}{take_off}",
-        m.take_off.0, s.regulated.take_off.0
+        "TAKE OFF FUEL {}\nTAKE OFF WEIGHT {} MAX {}{take_off}",
+        s.fuel.take_off.0, m.take_off.0, s.regulated.take_off.0
     )?;
-    writeln!(out, "TRIP FUEL {}", s.fuel.trip.0)?;
     writeln!(
         out,
-        "LANDING WEIGHT {} MAX {}{landing}",
-        m.landing.0, s.regulated.landing.0
+        "TRIP FUEL {}\nLANDING WEIGHT {} MAX {}{landing}\nUNDERLOAD {}",
+        s.fuel.trip.0, m.landing.0, s.regulated.landing.0, s.balance.underload.kg
     )?;
-    writeln!(out, "UNDERLOAD {}", b.underload.kg)?;
     Ok(())
 }
 

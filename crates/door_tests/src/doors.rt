@@ -1,8 +1,9 @@
 // Two desks, each at a door of its own.
 use crate::examples::{MORNING, MORNING_ANSWERS, joined, link, office};
 use desk_base::NoMemory;
-use desk_serve::{DoorsEnd, DoorsRun, serve_doors};
-use keeper::{FailingKeeper, Keeper, MemoryKeeper};
+use desk_serve::{DoorsRun, serve_doors};
+use editions::Entry;
+use keeper::{FailingKeeper, Keeper};
 use load_io::{MemoryDoor, MemoryLink};
 use placer::Direct;
 use std::alloc::Global;
@@ -32,54 +33,75 @@ const FULL: &str = "\
     \r\n\
     {\"error\":\"full\"}";
 
-/// Numbers of calls that fail.
-fn calls(alloc: Global, number: Option<u64>) -> Result<Vec<u64>, NoMemory> {
-    let mut calls = Vec::new(alloc);
-    if let Some(number) = number {
-        calls.push(number)?;
-    }
-    Ok(calls)
+/// What is asked at the first door: the day of a flight, or of a link that cannot be heard, or of one that cannot be answered.
+/// Then a second link asks.
+#[derive(Clone, Copy)]
+enum First {
+    Day,
+    Unheard,
+    Unsent,
 }
 
-/// A link that asks twice. A read of it fails, or a write.
-fn broken_link(
-    alloc: Global,
-    read: Option<u64>,
-    write: Option<u64>,
-) -> Result<MemoryLink, NoMemory> {
+/// What befalls the office and its doors. Calls are counted from 1, so none has the number 0.
+#[derive(Clone, Copy)]
+struct Case {
+    /// How many entries the office has room for.
+    capacity: u32,
+    first: First,
+    /// The call of the second door that fails.
+    fail_door: u64,
+    /// The commit that fails.
+    fail_commit: u64,
+}
+
+/// Nothing fails.
+const FINE: Case = Case {
+    capacity: 100,
+    first: First::Day,
+    fail_door: 0,
+    fail_commit: 0,
+};
+
+/// A link that asks twice, of which a read fails, or a write.
+fn broken_link(alloc: Global, fail_read: u64, fail_write: u64) -> Result<MemoryLink, NoMemory> {
     let input = joined(alloc, &[ROW, ROW])?;
-    MemoryLink::new(
-        alloc,
-        input,
-        100,
-        1_000,
-        calls(alloc, read)?,
-        calls(alloc, write)?,
-    )
+    let fail_reads = vec![in alloc; fail_read]?;
+    let fail_writes = vec![in alloc; fail_write]?;
+    MemoryLink::new(alloc, input, 100, 1_000, fail_reads, fail_writes)
 }
 
-/// A door with these links, of which one call fails, or none.
+/// A door with these links, of which a call fails.
 fn door(
     alloc: Global,
     first: MemoryLink,
     second: MemoryLink,
-    fail: Option<u64>,
+    fail: u64,
 ) -> Result<MemoryDoor, NoMemory> {
     let mut links = Vec::with_capacity(alloc, 2)?;
     links.push_reserved(first);
     links.push_reserved(second);
-    MemoryDoor::new(alloc, links, calls(alloc, fail)?)
+    MemoryDoor::new(alloc, links, vec![in alloc; fail]?)
 }
 
-/// A door with the day of a flight, and then a link that asks twice.
-fn busy_door(alloc: Global) -> Result<MemoryDoor, NoMemory> {
-    let first = link(alloc, &[MORNING])?;
-    let second = link(alloc, &[ROW, ROW])?;
-    door(alloc, first, second, None)
+fn first_door(alloc: Global, first: First) -> Result<MemoryDoor, NoMemory> {
+    match first {
+        First::Day => {
+            let day = link(alloc, &[MORNING])?;
+            door(alloc, day, link(alloc, &[ROW, ROW])?, 0)
+        }
+        First::Unheard => {
+            let unheard = broken_link(alloc, 1, 0)?;
+            door(alloc, unheard, link(alloc, &[ROW])?, 0)
+        }
+        First::Unsent => {
+            let unsent = broken_link(alloc, 0, 1)?;
+            door(alloc, unsent, link(alloc, &[ROW])?, 0)
+        }
+    }
 }
 
 /// A door with a link that asks twice, and then one that asks nothing.
-fn quiet_door(alloc: Global, fail: Option<u64>) -> Result<MemoryDoor, NoMemory> {
+fn second_door(alloc: Global, fail: u64) -> Result<MemoryDoor, NoMemory> {
     let first = link(alloc, &[ROW, ROW])?;
     let second = link(alloc, &[])?;
     door(alloc, first, second, fail)
@@ -101,119 +123,130 @@ fn served<Rt: Threads + Wait + Sync, K: Keeper + Send + Drop>(
     Ok(serve_doors(rt, alloc, office, keeper, doors, &Direct))
 }
 
-/// What was written to the link at a place of those that a door took back, and nothing where there is none.
-fn written<K: Keeper>(run: &DoorsRun<K, MemoryDoor>, door: usize, place: usize) -> &[u8] {
-    let Some(door) = run.doors.get(door) else {
-        return &[];
-    };
-    match door.back().get(place) {
-        Some(link) => link.written(),
-        None => &[],
-    }
+/// How many entries of the history are those of each of the two desks.
+fn counts(history: &[Entry]) -> (usize, usize) {
+    let first = history.iter().filter(|entry| entry.desk == 1).count();
+    let second = history.iter().filter(|entry| entry.desk == 2).count();
+    (first, second)
 }
 
-/// How many entries of the history are those of each of the two desks.
-fn counts<K: Keeper>(run: &DoorsRun<K, MemoryDoor>) -> (usize, usize) {
-    let first = run.history.iter().filter(|entry| entry.desk == 1).count();
-    let second = run.history.iter().filter(|entry| entry.desk == 2).count();
-    (first, second)
+/// What an office leaves, as a text: how it ended, how many entries each desk made, and then for each door what was written to each
+/// link that it took back.
+fn told(alloc: Global, run: &DoorsRun<FailingKeeper, MemoryDoor>) -> Result<Vec<u8>, NoMemory> {
+    let (first, second) = counts(&run.history);
+    let ending = format!(in alloc; "{:?} {first} {second}", run.ending)?;
+    let mut text = ending.into_bytes();
+    for door in &run.doors {
+        text.extend_from_slice(b"\ndoor")?;
+        for link in door.back() {
+            text.push(b'|')?;
+            text.extend_from_slice(link.written())?;
+        }
+    }
+    text.extend_from_slice(b"\nend")?;
+    Ok(text)
+}
+
+/// What the office of a case leaves.
+fn run<Rt: Threads + Wait + Sync>(rt: &Rt, alloc: Global, case: Case) -> Result<Vec<u8>, NoMemory> {
+    let first = first_door(alloc, case.first)?;
+    let second = second_door(alloc, case.fail_door)?;
+    let fail_commits = vec![in alloc; case.fail_commit]?;
+    let keeper = FailingKeeper::new(alloc, Vec::new(alloc), fail_commits);
+    let run = served(rt, alloc, keeper, case.capacity, first, second)?;
+    told(alloc, &run)
+}
+
+/// Fails where what the office of a case leaves does not begin with these texts.
+fn check<Rt: Threads + Wait + Sync>(
+    rt: &Rt,
+    alloc: Global,
+    case: Case,
+    due: &[&str],
+) -> Result<(), Fail> {
+    let text = run(rt, alloc, case)?;
+    let due = joined(alloc, due)?;
+    if text.starts_with(&due) {
+        return Ok(());
+    }
+    Err(Fail::new(String::from_utf8(text)?.as_str()))
 }
 
 #[test]
 fn each_door_is_served_to_its_end(rt: HostRuntime) -> Result<(), Fail> {
-    let alloc = rt.alloc();
-    let keeper = MemoryKeeper::new(alloc);
-    let run = served(
-        &rt,
-        alloc,
-        keeper,
-        100,
-        busy_door(alloc)?,
-        quiet_door(alloc, None)?,
-    )?;
-    let due = joined(alloc, &[NO_FLIGHT, NO_FLIGHT])?;
-    assert_eq!(rt; run.ending, Ok(DoorsEnd::Closed));
-    assert_eq!(rt; counts(&run), (9, 2));
-    assert_eq!(rt; written(&run, 0, 0), MORNING_ANSWERS.as_bytes());
-    assert_eq!(rt; written(&run, 0, 1), due.as_slice());
-    assert_eq!(rt; written(&run, 1, 0), due.as_slice());
-    Ok(())
+    let due = [
+        "Ok(Closed) 9 2\ndoor|",
+        MORNING_ANSWERS,
+        "|",
+        NO_FLIGHT,
+        NO_FLIGHT,
+        "\ndoor|",
+        NO_FLIGHT,
+        NO_FLIGHT,
+        "|\nend",
+    ];
+    check(&rt, rt.alloc(), FINE, &due)
 }
 
 #[test]
 fn a_door_that_fails_stops_no_other(rt: HostRuntime) -> Result<(), Fail> {
-    let alloc = rt.alloc();
-    for call in 1..4 {
-        let keeper = MemoryKeeper::new(alloc);
-        let second = quiet_door(alloc, Some(call))?;
-        let run = served(&rt, alloc, keeper, 100, busy_door(alloc)?, second)?;
-        let asked = if call == 1 { 0 } else { 2 };
-        assert_eq!(rt; run.ending, Ok(DoorsEnd::Failed));
-        assert_eq!(rt; counts(&run), (9, asked));
-        assert_eq!(rt; written(&run, 0, 0), MORNING_ANSWERS.as_bytes());
+    let rows = [
+        (1, "Ok(Failed) 9 0\ndoor|"),
+        (2, "Ok(Failed) 9 2\ndoor|"),
+        (3, "Ok(Failed) 9 2\ndoor|"),
+    ];
+    for (fail_door, due) in rows {
+        let case = Case { fail_door, ..FINE };
+        check(&rt, rt.alloc(), case, &[due, MORNING_ANSWERS, "|"])?;
     }
     Ok(())
 }
 
-/// How many entries the desks make where the first door's first link is this one. Its second link is served to its end.
-fn entries_beside<Rt: Threads + Wait + Sync>(
-    rt: &Rt,
-    alloc: Global,
-    broken: MemoryLink,
-) -> Result<Option<(usize, usize)>, NoMemory> {
-    let first = door(alloc, broken, link(alloc, &[ROW])?, None)?;
-    let keeper = MemoryKeeper::new(alloc);
-    let run = served(rt, alloc, keeper, 100, first, quiet_door(alloc, None)?)?;
-    let is_served = run.ending == Ok(DoorsEnd::Closed)
-        && written(&run, 0, 0).is_empty()
-        && written(&run, 0, 1) == NO_FLIGHT.as_bytes();
-    Ok(if is_served { Some(counts(&run)) } else { None })
-}
-
 #[test]
 fn a_link_that_fails_ends_alone(rt: HostRuntime) -> Result<(), Fail> {
-    let alloc = rt.alloc();
-    let unheard = broken_link(alloc, Some(1), None)?;
-    assert_eq!(rt; entries_beside(&rt, alloc, unheard)?, Some((1, 2)));
-    let unsent = broken_link(alloc, None, Some(1))?;
-    assert_eq!(rt; entries_beside(&rt, alloc, unsent)?, Some((2, 2)));
+    let rows = [
+        (First::Unheard, "Ok(Closed) 1 2\ndoor||"),
+        (First::Unsent, "Ok(Closed) 2 2\ndoor||"),
+    ];
+    for (first, due) in rows {
+        let case = Case { first, ..FINE };
+        check(&rt, rt.alloc(), case, &[due, NO_FLIGHT, "\ndoor|"])?;
+    }
     Ok(())
 }
 
 #[test]
 fn an_office_without_room_says_so_at_each_desk(rt: HostRuntime) -> Result<(), Fail> {
-    let alloc = rt.alloc();
-    let keeper = MemoryKeeper::new(alloc);
-    let run = served(
-        &rt,
-        alloc,
-        keeper,
-        0,
-        busy_door(alloc)?,
-        quiet_door(alloc, None)?,
-    )?;
-    let due = joined(alloc, &[FULL, FULL])?;
-    assert_eq!(rt; run.ending, Ok(DoorsEnd::Closed));
-    assert_eq!(rt; counts(&run), (0, 0));
-    assert_eq!(rt; written(&run, 0, 1), due.as_slice());
-    assert_eq!(rt; written(&run, 1, 0), due.as_slice());
-    Ok(())
+    let case = Case {
+        capacity: 0,
+        ..FINE
+    };
+    let due = [
+        "Ok(Closed) 0 0\ndoor|",
+        FULL,
+        FULL,
+        FULL,
+        FULL,
+        FULL,
+        FULL,
+        FULL,
+        "|",
+        FULL,
+        FULL,
+        "\ndoor|",
+        FULL,
+        FULL,
+        "|\nend",
+    ];
+    check(&rt, rt.alloc(), case, &due)
 }
 
 #[test]
 fn a_failed_commit_is_answered_so(rt: HostRuntime) -> Result<(), Fail> {
-    let alloc = rt.alloc();
-    let keeper = FailingKeeper::new(alloc, Vec::new(alloc), calls(alloc, Some(1))?);
-    let run = served(
-        &rt,
-        alloc,
-        keeper,
-        100,
-        busy_door(alloc)?,
-        quiet_door(alloc, None)?,
-    )?;
-    assert_eq!(rt; run.ending, Ok(DoorsEnd::Closed));
-    assert_eq!(rt; counts(&run), (9, 2));
-    assert!(rt; written(&run, 0, 0).starts_with(b"HTTP/1.1 503 Service Unavailable"));
-    Ok(())
+    let case = Case {
+        fail_commit: 1,
+        ..FINE
+    };
+    let due = "Ok(Closed) 9 2\ndoor|HTTP/1.1 503 Service Unavailable";
+    check(&rt, rt.alloc(), case, &[due])
 }

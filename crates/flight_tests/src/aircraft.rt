@@ -1,75 +1,113 @@
 // The file of the worked day, edits of it key by key, and files whose keys describe no lawful aircraft.
-use crate::tables::{edited, field_at, text_of};
+use crate::pass;
 use crate::worked_day::{DAIAB, daiab};
 use aircraft_file::{Aircraft, read_aircraft};
+use case_rows::{Subject, edited, field};
 use hold_limits::{Fit, Hold, Position};
 use std::alloc::{AllocError, Global};
+use std::str;
 use std::test::Fail;
 
-/// Keys, a row for each: its number, its text in the file, a text without it, and a text where it is not in its form. A `~`
-/// stands for the end of a line.
-const KEYS: &[u8] = br#"1|registration = "DAIAB"||registration = "D-AIAB"
-2|version = "Y150"||version = 150
-3|mass = 42000||mass = 0
-4|index = "50.00000"||index = "10000.00001"
-5|k = "50.00000"||k = 50.00000
-6|~c = 1000||~c = 1000001
-7|reference = 18850||reference = 100001
-8|lemac = 17800||lemac = -100001
-9|~mac = 4190||~mac = 0
-10|ramp = 73900||ramp = 1000001
-11|zero_fuel = 62500||zero_fuel = 62500.0
-12|take_off = 73500||take_off = "73500"
-13|landing = 66000||landing = -66000
-14|mass = 500||mass = -1
-15|index = "5.00000"||index = "-0.00001"
-16|low = "50.00000"||low = "50.0"
-17|high = "51.00000"||high = "49.99999"
-18|adult = 84||adult = 301
-19|child = 35||child = -1
-20|infant = 10||infant = true
-21|bag = 15||bag = 15.5
-22|[[zone]]|[[other]]|[[zone]]~[[zone]]
-23|[[position]]|[[other]]|[[position]]~[[position]]
-28|rows = [[0, "0.00000"]|other = [[]|rows = [[0]
-29|forward = [[40000, "40.00000"]|other = [[]|forward = [40000
-30|aft = [[40000, "60.00000"]|other = [[]|aft = [[1000001, "60.00000"]
-31|forward = [[40000, "38.00000"]|other = [[]|forward = [[40000, "38"]
-32|aft = [[40000, "62.00000"]|other = [[]|aft = [[40000, "62.00000", 1]
-33|forward = [[40000, "39.00000"]|other = [[]|forward = [[-1, "39.00000"]
-34|aft = [[40000, "61.00000"]|other = [[]|aft = [["61.00000", 40000]"#;
+/// The file without a key, and with the key not in its form: two rows for each key.
+const KEYS: &str = r#"key 1 is missing|registration = "DAIAB"=>
+key 1 is wrong|registration = "DAIAB"=>registration = "D-AIAB"
+key 2 is missing|version = "Y150"=>
+key 2 is wrong|version = "Y150"=>version = 150
+key 3 is missing|mass = 42000=>
+key 3 is wrong|mass = 42000=>mass = 0
+key 4 is missing|index = "50.00000"=>
+key 4 is wrong|index = "50.00000"=>index = "10000.00001"
+key 5 is missing|k = "50.00000"=>
+key 5 is wrong|k = "50.00000"=>k = 50.00000
+key 6 is missing|~c = 1000=>
+key 6 is wrong|~c = 1000=>~c = 1000001
+key 7 is missing|reference = 18850=>
+key 7 is wrong|reference = 18850=>reference = 100001
+key 8 is missing|lemac = 17800=>
+key 8 is wrong|lemac = 17800=>lemac = -100001
+key 9 is missing|~mac = 4190=>
+key 9 is wrong|~mac = 4190=>~mac = 0
+key 10 is missing|ramp = 73900=>
+key 10 is wrong|ramp = 73900=>ramp = 1000001
+key 11 is missing|zero_fuel = 62500=>
+key 11 is wrong|zero_fuel = 62500=>zero_fuel = 62500.0
+key 12 is missing|take_off = 73500=>
+key 12 is wrong|take_off = 73500=>take_off = "73500"
+key 13 is missing|landing = 66000=>
+key 13 is wrong|landing = 66000=>landing = -66000
+key 14 is missing|mass = 500=>
+key 14 is wrong|mass = 500=>mass = -1
+key 15 is missing|index = "5.00000"=>
+key 15 is wrong|index = "5.00000"=>index = "-0.00001"
+key 16 is missing|low = "50.00000"=>
+key 16 is wrong|low = "50.00000"=>low = "50.0"
+key 17 is missing|high = "51.00000"=>
+key 17 is wrong|high = "51.00000"=>high = "49.99999"
+key 18 is missing|adult = 84=>
+key 18 is wrong|adult = 84=>adult = 301
+key 19 is missing|child = 35=>
+key 19 is wrong|child = 35=>child = -1
+key 20 is missing|infant = 10=>
+key 20 is wrong|infant = 10=>infant = true
+key 21 is missing|bag = 15=>
+key 21 is wrong|bag = 15=>bag = 15.5
+key 22 is missing|[[zone]]=>[[other]]
+key 22 is wrong|[[zone]]=>[[zone]]~[[zone]]
+key 23 is missing|[[position]]=>[[other]]
+key 23 is wrong|[[position]]=>[[position]]~[[position]]
+key 28 is missing|rows = [[0, "0.00000"]=>other = [[]
+key 28 is wrong|rows = [[0, "0.00000"]=>rows = [[0]
+key 29 is missing|forward = [[40000, "40.00000"]=>other = [[]
+key 29 is wrong|forward = [[40000, "40.00000"]=>forward = [40000
+key 30 is missing|aft = [[40000, "60.00000"]=>other = [[]
+key 30 is wrong|aft = [[40000, "60.00000"]=>aft = [[1000001, "60.00000"]
+key 31 is missing|forward = [[40000, "38.00000"]=>other = [[]
+key 31 is wrong|forward = [[40000, "38.00000"]=>forward = [[40000, "38"]
+key 32 is missing|aft = [[40000, "62.00000"]=>other = [[]
+key 32 is wrong|aft = [[40000, "62.00000"]=>aft = [[40000, "62.00000", 1]
+key 33 is missing|forward = [[40000, "39.00000"]=>other = [[]
+key 33 is wrong|forward = [[40000, "39.00000"]=>forward = [[-1, "39.00000"]
+key 34 is missing|aft = [[40000, "61.00000"]=>other = [[]
+key 34 is wrong|aft = [[40000, "61.00000"]=>aft = [["61.00000", 40000]"#;
 
-/// The keys that may be absent, of which the file has two.
-const LIMITS: &[u8] = br#"24|[hold]|[hold]|[hold]~exclude = [["11", "99"]]
-25|combined = [[2500, "11", "12"]]||combined = [[2500]]
-26|[hold]|[hold]|[hold]~forward = [[4500, "11"]]
-27|aft = [["41", 4500]]||aft = [["41"]]
-35|[hold]|[hold]|[hold]~lateral = 1000001
-36|[hold]|[hold]~lateral = 0|[hold]~lateral = 0~left = ["11", "11"]
-37|[hold]|[hold]~left = ["11", "99"]~right = 5|[hold]~lateral = 0~left = ["11"]~right = ["11"]"#;
+/// The same of the keys that may be absent, of which the file has two.
+const LIMITS: &str = r#"an aircraft|[hold]=>[hold]
+key 24 is wrong|[hold]=>[hold]~exclude = [["11", "99"]]
+an aircraft|combined = [[2500, "11", "12"]]=>
+key 25 is wrong|combined = [[2500, "11", "12"]]=>combined = [[2500]]
+an aircraft|[hold]=>[hold]
+key 26 is wrong|[hold]=>[hold]~forward = [[4500, "11"]]
+an aircraft|aft = [["41", 4500]]=>
+key 27 is wrong|aft = [["41", 4500]]=>aft = [["41"]]
+an aircraft|[hold]=>[hold]
+key 35 is wrong|[hold]=>[hold]~lateral = 1000001
+an aircraft|[hold]=>[hold]~lateral = 0
+key 36 is wrong|[hold]=>[hold]~lateral = 0~left = ["11", "11"]
+an aircraft|[hold]=>[hold]~left = ["11", "99"]~right = 5
+key 37 is wrong|[hold]=>[hold]~lateral = 0~left = ["11"]~right = ["11"]"#;
 
-/// Edits of the file, a row for each: how it is refused, and then pairs of a text and of what stands in its place.
-const FIRST_FAULTS: &[u8] = br#"envelope 3 ends below the certified mass|[70000, |[65999, 
-the fuel table is not lawful: row 1 has no more fuel than the one before it|[3000, |[0, |[70000, |[65999, 
-envelope 1 is not lawful: the sides cross at Kg(65000)|[65000, "45.00000"]|[65000, "61.00000"]|[3000, |[0, 
-the hold is not lawful: position 3 has the name of an earlier one|name = "42"|name = "41"|[65000, "45.00000"]|[65000, "61.00000"]
-key 25 is wrong|name = "12"|name = "11"|name = "42"|name = "41"
-key 17 is wrong|low = "50.00000"|low = "52.00000"|name = "12"|name = "11"
-key 1 is missing|registration = "DAIAB"||low = "50.00000"|low = "52.00000"
-the file is not a TOML document|registration = "DAIAB"||[dry]|["#;
+/// Edits of the file, behind how it is refused.
+const FIRST_FAULTS: &str = r#"as due|envelope 3 ends below the certified mass|[70000, =>[65999, 
+as due|the fuel table is not lawful: row 1 has no more fuel than the one before it|[3000, =>[0, |[70000, =>[65999, 
+as due|envelope 1 is not lawful: the sides cross at Kg(65000)|[65000, "45.00000"]=>[65000, "61.00000"]|[3000, =>[0, 
+as due|the hold is not lawful: position 3 has the name of an earlier one|name = "42"=>name = "41"|[65000, "45.00000"]=>[65000, "61.00000"]
+as due|key 25 is wrong|name = "12"=>name = "11"|name = "42"=>name = "41"
+as due|key 17 is wrong|low = "50.00000"=>low = "52.00000"|name = "12"=>name = "11"
+as due|key 1 is missing|registration = "DAIAB"=>|low = "50.00000"=>low = "52.00000"
+as due|the file is not a TOML document|registration = "DAIAB"=>|[dry]=>["#;
 
-/// Edits of the file that break or keep the rule of a single form, as above.
-const SINGLE_FORMS: &[u8] = br#"key 3 is missing|[dry]|dry = 5~[other]
-the file is not a TOML document|mass = 42000|mass = 9223372036854775808
-key 23 is wrong|bulk = true|bulk = true~fits = []
-key 23 is wrong|bulk = true|bulk = false
-the hold is not lawful: position 4|bulk = true|fits = []
-the hold is not lawful: the influence of position 4|influence = 900|influence = 999999999
-an aircraft|bulk = true|bulk = false~fits = [["AKE", 1500]]
-key 35 is wrong|[hold]|[hold]~lateral = -1
-key 36 is wrong|[hold]|[hold]~lateral = 0~left = ["99"]
-key 37 is wrong|[hold]|[hold]~lateral = 0~right = ["12", "99"]
-key 37 is wrong|[hold]|[hold]~lateral = 0~right = ["12", "12"]"#;
+/// Edits of the file that break or keep the rule of a single form, behind what is said of it.
+const SINGLE_FORMS: &str = r#"as due|key 3 is missing|[dry]=>dry = 5~[other]
+as due|the file is not a TOML document|mass = 42000=>mass = 9223372036854775808
+as due|key 23 is wrong|bulk = true=>bulk = true~fits = []
+as due|key 23 is wrong|bulk = true=>bulk = false
+as due|the hold is not lawful: position 4|bulk = true=>fits = []
+as due|the hold is not lawful: the influence of position 4|influence = 900=>influence = 999999999
+as due|an aircraft|bulk = true=>bulk = false~fits = [["AKE", 1500]]
+as due|key 35 is wrong|[hold]=>[hold]~lateral = -1
+as due|key 36 is wrong|[hold]=>[hold]~lateral = 0~left = ["99"]
+as due|key 37 is wrong|[hold]=>[hold]~lateral = 0~right = ["12", "99"]
+as due|key 37 is wrong|[hold]=>[hold]~lateral = 0~right = ["12", "12"]"#;
 
 /// The file's records, as they are read.
 const RECORDS: &str =
@@ -128,71 +166,48 @@ fn said_of(alloc: Global, text: &str) -> Result<String, Fail> {
     }
 }
 
-/// What is said of the file with the text in the place of another.
-fn said_with(alloc: Global, old: &str, new: &str) -> Result<String, Fail> {
-    said_of(
-        alloc,
-        String::from_str(alloc, DAIAB)?
-            .replace(alloc, old, new)?
-            .as_str(),
-    )
-}
+/// What is said of the file with the edits of a case.
+struct Edited;
 
-/// The first row of which something else is said where its key is absent, or is not in its form.
-fn first_wrong_key(alloc: Global, keys: &[u8], absent: &str) -> Result<Option<usize>, Fail> {
-    for (at, row) in keys.split(|byte| *byte == b'\n').enumerate() {
-        let number = field_at(alloc, row, 0)?;
-        let old = field_at(alloc, row, 1)?;
-        let without = said_with(alloc, old.as_str(), field_at(alloc, row, 2)?.as_str())?;
-        let wrong = said_with(alloc, old.as_str(), field_at(alloc, row, 3)?.as_str())?;
-        let missing = absent.replace(alloc, "N", number.as_str())?;
-        if without != missing || wrong != format!(in alloc; "key {number} is wrong")? {
-            return Ok(Some(at));
-        }
+impl Subject for Edited {
+    fn said(&self, alloc: Global, case: &str) -> Result<String, Fail> {
+        said_of(alloc, edited(alloc, DAIAB, case)?.as_str())
     }
-    Ok(None)
 }
 
-/// The first row of edits of which something else is said.
-fn first_wrong_edit(alloc: Global, edits: &[u8]) -> Result<Option<usize>, Fail> {
-    for (at, row) in edits.split(|byte| *byte == b'\n').enumerate() {
-        let said = field_at(alloc, row, 0)?;
-        if !said_of(alloc, edited(alloc, DAIAB, row)?.as_str())?
-            .as_str()
-            .starts_with(said.as_str())
-        {
-            return Ok(Some(at));
+#[test]
+fn each_key_may_be_missing_or_wrong(rt: HostRuntime) {
+    pass(&rt, rt.alloc(), &Edited, KEYS);
+    pass(&rt, rt.alloc(), &Edited, LIMITS);
+}
+
+/// Whether what is said of the file with the edits of a case begins as the case does.
+struct Begun;
+
+impl Subject for Begun {
+    fn said(&self, alloc: Global, case: &str) -> Result<String, Fail> {
+        let said = said_of(alloc, edited(alloc, DAIAB, case)?.as_str())?;
+        if said.as_str().starts_with(field(case, 0)?) {
+            return Ok(String::from_str(alloc, "as due")?);
         }
+        Ok(said)
     }
-    Ok(None)
 }
 
 #[test]
-fn each_key_may_be_missing_or_wrong(rt: HostRuntime) -> Result<(), Fail> {
-    assert_eq!(rt;
-        first_wrong_key(rt.alloc(), KEYS, "key N is missing")?,
-        None
-    );
-    assert_eq!(rt; first_wrong_key(rt.alloc(), LIMITS, "an aircraft")?, None);
-    Ok(())
+fn the_first_fault_decides(rt: HostRuntime) {
+    pass(&rt, rt.alloc(), &Begun, FIRST_FAULTS);
 }
 
 #[test]
-fn the_first_fault_decides(rt: HostRuntime) -> Result<(), Fail> {
-    assert_eq!(rt; first_wrong_edit(rt.alloc(), FIRST_FAULTS)?, None);
-    Ok(())
-}
-
-#[test]
-fn rules_of_single_forms(rt: HostRuntime) -> Result<(), Fail> {
-    assert_eq!(rt; first_wrong_edit(rt.alloc(), SINGLE_FORMS)?, None);
-    Ok(())
+fn rules_of_single_forms(rt: HostRuntime) {
+    pass(&rt, rt.alloc(), &Begun, SINGLE_FORMS);
 }
 
 /// The registration, the version and the single figures of an aircraft.
 fn figures_of(alloc: Global, aircraft: &Aircraft) -> Result<String, Fail> {
-    let registration = text_of(aircraft.registration().bytes())?;
-    let version = text_of(aircraft.version().bytes())?;
+    let registration = str::from_utf8(aircraft.registration().bytes())?;
+    let version = str::from_utf8(aircraft.version().bytes())?;
     let dry = (aircraft.dry_mass(), aircraft.dry_index());
     let tolerances = (aircraft.tolerance_mass(), aircraft.tolerance_index());
     let ideal = (aircraft.ideal_low(), aircraft.ideal_high());
@@ -236,14 +251,14 @@ fn the_file_is_read(rt: HostRuntime) -> Result<(), Fail> {
 fn fits_text(alloc: Global, fits: &[Fit]) -> Result<String, Fail> {
     match fits {
         [] => Ok(String::new(alloc)),
-        [fit] => Ok(format!(in alloc; "{} {}", text_of(fit.kind.as_slice())?, fit.most.0)?),
+        [fit] => Ok(format!(in alloc; "{} {}", str::from_utf8(fit.kind.as_slice())?, fit.most.0)?),
         _ => Err(Fail::new("a position accepts one kind")),
     }
 }
 
 /// The name, the compartment and the influence of a position, whether it is a bulk position, and what it accepts.
 fn position_text(alloc: Global, position: &Position) -> Result<String, Fail> {
-    let name = text_of(position.name.bytes())?;
+    let name = str::from_utf8(position.name.bytes())?;
     let fits = fits_text(alloc, position.fits.as_slice())?;
     let figures = (position.compartment, position.influence, position.bulk);
     Ok(format!(in alloc; "{name} {figures:?} {fits}")?)

@@ -1,8 +1,9 @@
 // The worked day: its task and its balance, days that are refused, and each rule broken alone.
-use crate::tables::{edited, field_at};
-use crate::worked_day::{ROW, daiab};
+use crate::pass;
+use crate::worked_day::daiab;
 use aircraft_file::Aircraft;
 use arrayvec::ArrayVec;
+use case_rows::{Subject, edited};
 use flight_row::read_row;
 use hold_limits::{Path, Task, hold_index_of, is_in_window, is_sound};
 use mass_units::{Kg, Ticks};
@@ -11,40 +12,47 @@ use std::slice;
 use std::test::Fail;
 use trim::{Figures, Rule, Rules, TrimFault, broken_rules, state_of, task_of};
 
-/// Edits of the worked day's row, a row for each: why its figures leave no task, and the edits.
-const FAULTS: &[u8] = b"the fuel table does not have Kg(20001) of fuel|fuel 200 9000|fuel 200 20001
-zone 1 has more adults and children than its 60 seats|zone 50 4 2|zone 57 4 2
-loose load 1 has no bulk position, or is over 20000 kg|loose 51 200 8|loose 51 19880 8~loose 42 100 0
-no index is inside envelope 1 at the mass of the flight|dry 42000|dry 52421
-no index is inside envelope 2 at the mass of the flight|dry 42000|dry 52420|fuel 200 9000|fuel 200 10001
-no index is inside envelope 3 at the mass of the flight|dry 42000|dry 52420|9000 6000|10000 4999
-container 1 has the identity of an earlier one|AKE10002XX|AKE10001XX";
+/// Edits of the worked day's row, behind why its figures leave no task.
+const FAULTS: &str = "the fuel table does not have Kg(20001) of fuel|fuel 200 9000=>fuel 200 20001
+zone 1 has more adults and children than its 60 seats|zone 50 4 2=>zone 57 4 2
+loose load 1 has no bulk position, or is over 20000 kg|loose 51 200 8=>loose 51 19880 8~loose 42 100 0
+no index is inside envelope 1 at the mass of the flight|dry 42000=>dry 52421
+no index is inside envelope 2 at the mass of the flight|dry 42000=>dry 52420|fuel 200 9000=>fuel 200 10001
+no index is inside envelope 3 at the mass of the flight|dry 42000=>dry 52420|9000 6000=>10000 4999
+container 1 has the identity of an earlier one|AKE10002XX=>AKE10001XX";
 
-/// The same: the only rule that its figures break, with the containers on positions 11 and 42.
-const BROKEN_ALONE: &[u8] = b"RAMP|fuel 200|fuel 10321
-ZERO FUEL|dry 42000|dry 49921
-TAKE OFF|limits 73500|limits 63579
-LANDING|limits 73500 66000|limits 73500 57579
-REGULATED|limits 73500|limits 73501
-REGULATED|limits 73500 66000|limits 73500 66001
-ZERO FUEL ENVELOPE|dry 42000 50.00000|dry 42000 41.00000
-TAKE OFF ENVELOPE|dry 42000 50.00000|dry 42000 41.29000|9000 6000|18000 12000
-LANDING ENVELOPE|dry 42000 50.00000|dry 42000 41.34000|9000 6000|10000 100";
+/// The same behind the only rule that its figures break, with the containers on positions 11 and 42.
+const BROKEN_ALONE: &str = "RAMP,|fuel 200=>fuel 10321
+ZERO FUEL,|dry 42000=>dry 49921
+TAKE OFF,|limits 73500=>limits 63579
+LANDING,|limits 73500 66000=>limits 73500 57579
+REGULATED,|limits 73500=>limits 73501
+REGULATED,|limits 73500 66000=>limits 73500 66001
+ZERO FUEL ENVELOPE,|dry 42000 50.00000=>dry 42000 41.00000
+TAKE OFF ENVELOPE,|dry 42000 50.00000=>dry 42000 41.29000|9000 6000=>18000 12000
+LANDING ENVELOPE,|dry 42000 50.00000=>dry 42000 41.34000|9000 6000=>10000 100";
 
 /// The balance of the worked day.
 const BALANCE: &str = "Balance { masses: Masses { ramp: Kg(63780), zero_fuel: Kg(54580), \
     take_off: Kg(63580), landing: Kg(57580) }, underload: Underload { kg: 7920, limiting: ZeroFuel }, \
     zero_fuel: Ticks(5166000), take_off: Ticks(5045000), landing: Ticks(5165000) }";
 
-/// The row of the worked day before its plan, with the edits of a row.
-fn row_with(alloc: Global, row: &[u8]) -> Result<String, Fail> {
-    Ok(
-        edited(alloc, ROW, row)?
-            .replace(alloc, "stage released", "stage working")?
-            .replace(alloc, "releases 1", "releases 0")?
-            .replace(alloc, "plan 11 42\n", "")?,
-    )
-}
+/// The row of the worked day before its plan.
+const UNPLANNED: &str = "FLIGHT 2
+leg XX210 12 DAIAB FRA ARN
+edition 7
+stage working
+releases 0
+dry 42000 50.00000 2 4
+fuel 200 9000 6000
+limits 73500 66000
+zone 50 4 2
+zone 70 6 1
+container AKE10001XX 1000
+container AKE10002XX 800
+loose 51 200 8
+END
+";
 
 /// The figures of the flight of a row.
 fn figures_in(alloc: Global, aircraft: &Aircraft, row: &str) -> Result<Figures, Fail> {
@@ -52,16 +60,16 @@ fn figures_in(alloc: Global, aircraft: &Aircraft, row: &str) -> Result<Figures, 
     Ok(flight.base.copy(alloc)?)
 }
 
-/// The figures of the worked day with the edits of a row.
-fn figures_with(alloc: Global, row: &[u8]) -> Result<Figures, Fail> {
-    let text = row_with(alloc, row)?;
+/// The figures of the worked day with edits of its row.
+fn figures_with(alloc: Global, edits: &str) -> Result<Figures, Fail> {
+    let text = edited(alloc, UNPLANNED, edits)?;
     let aircraft = daiab(alloc)?;
     figures_in(alloc, &aircraft, text.as_str())
 }
 
 /// The figures of the worked day.
 fn worked(alloc: Global) -> Result<Figures, Fail> {
-    figures_with(alloc, b"")
+    figures_with(alloc, "")
 }
 
 /// The answer of `task_of`. No figures here are beyond the limits that it asks for.
@@ -93,40 +101,32 @@ fn rules(
     Ok(broken_rules(&daiab(alloc)?, figures, &path))
 }
 
-/// Why the figures of a row leave no task.
-fn fault_of(alloc: Global, row: &[u8]) -> Result<String, Fail> {
-    let figures = figures_with(alloc, row)?;
-    match task(alloc, &figures)?.err() {
-        Some(fault) => Ok(format!(in alloc; "{fault}")?),
-        None => Ok(String::from_str(alloc, "a task")?),
+/// Why the figures with the edits of a case leave no task.
+struct Faults;
+
+impl Subject for Faults {
+    fn said(&self, alloc: Global, case: &str) -> Result<String, Fail> {
+        let figures = figures_with(alloc, case)?;
+        match task(alloc, &figures)?.err() {
+            Some(fault) => Ok(format!(in alloc; "{fault}")?),
+            None => Ok(String::from_str(alloc, "a task")?),
+        }
     }
 }
 
-/// The first row of faults whose figures have a task, or none for another reason.
-fn first_other_fault(alloc: Global, faults: &[u8]) -> Result<Option<usize>, Fail> {
-    for (at, row) in faults.split(|byte| *byte == b'\n').enumerate() {
-        if fault_of(alloc, row)? != field_at(alloc, row, 0)? {
-            return Ok(Some(at));
-        }
-    }
-    Ok(None)
-}
+/// The rules that the figures with the edits of a case break, each with a comma behind it.
+struct Broken;
 
-/// The first row of rules whose figures break another one, or none.
-fn first_other_rule(alloc: Global, broken: &[u8]) -> Result<Option<usize>, Fail> {
-    for (at, row) in broken.split(|byte| *byte == b'\n').enumerate() {
-        let due = field_at(alloc, row, 0)?;
-        let rules = rules(alloc, &figures_with(alloc, row)?, 0, 3)??;
-        if rules.len() != 1
-            || !rules
-                .as_slice()
-                .iter()
-                .all(|rule| rule.text() == due.as_str())
-        {
-            return Ok(Some(at));
+impl Subject for Broken {
+    fn said(&self, alloc: Global, case: &str) -> Result<String, Fail> {
+        let rules = rules(alloc, &figures_with(alloc, case)?, 0, 3)??;
+        let mut said = String::new(alloc);
+        for rule in rules.as_slice() {
+            said.push_str(rule.text())?;
+            said.push(',')?;
         }
+        Ok(said)
     }
-    Ok(None)
 }
 
 /// The base, the window and the ideal band of a task.
@@ -179,23 +179,21 @@ fn the_worked_day_has_its_balance(rt: HostRuntime) -> Result<(), Fail> {
 }
 
 #[test]
-fn figures_that_leave_no_task_are_refused(rt: HostRuntime) -> Result<(), Fail> {
-    assert_eq!(rt; first_other_fault(rt.alloc(), FAULTS)?, None);
-    Ok(())
+fn figures_that_leave_no_task_are_refused(rt: HostRuntime) {
+    pass(&rt, rt.alloc(), &Faults, FAULTS);
 }
 
 #[test]
 fn fuel_beyond_the_table_breaks_no_rule(rt: HostRuntime) -> Result<(), Fail> {
-    let figures = figures_with(rt.alloc(), b"|fuel 200 9000|fuel 200 20001")?;
+    let figures = figures_with(rt.alloc(), "fuel 200 9000=>fuel 200 20001")?;
     let rules = rules(rt.alloc(), &figures, 0, 3)?;
     assert_eq!(rt; rules.err(), Some(TrimFault::FuelOut(Kg(20_001))));
     Ok(())
 }
 
 #[test]
-fn each_rule_is_broken_alone(rt: HostRuntime) -> Result<(), Fail> {
-    assert_eq!(rt; first_other_rule(rt.alloc(), BROKEN_ALONE)?, None);
-    Ok(())
+fn each_rule_is_broken_alone(rt: HostRuntime) {
+    pass(&rt, rt.alloc(), &Broken, BROKEN_ALONE);
 }
 
 /// The rules that the worked day breaks with its containers on these positions.

@@ -2,15 +2,14 @@
 ghost use Rattle.std.specs.Prelude.{IfOk};
 ghost use Rattle.last_minute.specs.Planned.{HasBalance};
 
-use crate::tables::text_of;
 use crate::worked_day::{ROW, daiab};
 use aircraft_file::Aircraft;
 use hold_limits::Name;
 use last_minute::{FlightState, Lmc, Place, Sheet, apply_lmc, read_row, sheet_of};
 use mass_units::Kg;
 use std::alloc::{AllocError, Global};
-use std::slice;
 use std::test::Fail;
+use std::{slice, str};
 
 /// The worked flight.
 fn flight_of(alloc: Global, aircraft: &Aircraft) -> Result<FlightState, Fail>
@@ -94,7 +93,7 @@ fn places_of(sheet: &Sheet) -> (usize, Option<Kg>) {
 /// Figures of a sheet: its version, the masses of its cabin, containers and loose loads, its centres of gravity, and its
 /// positions.
 fn figures_of(alloc: Global, sheet: &Sheet) -> Result<String, Fail> {
-    let version = text_of(sheet.version.bytes())?;
+    let version = str::from_utf8(sheet.version.bytes())?;
     let masses = (sheet.cabin_mass, sheet.container_mass, sheet.loose_mass);
     let places = places_of(sheet);
     Ok(format!(in alloc; "{version} {masses:?} {:?} {places:?}", sheet.mac)?)

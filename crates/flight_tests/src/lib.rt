@@ -3,6 +3,15 @@
 #![tactic(auto)]
 
 #[cfg(test)]
+use case_rows::{Subject, check};
+#[cfg(test)]
+use std::alloc::Global;
+#[cfg(test)]
+use std::io::Eprint;
+#[cfg(test)]
+use std::process::{Abort, ExitCode, Termination};
+
+#[cfg(test)]
 mod aircraft;
 #[cfg(test)]
 mod balance;
@@ -15,6 +24,11 @@ mod rows;
 #[cfg(test)]
 mod states;
 #[cfg(test)]
-mod tables;
-#[cfg(test)]
 mod worked_day;
+
+/// Fails a test where a row of a table is wrong, and prints the row.
+#[cfg(test)]
+fn pass<R: Abort + Eprint, S: Subject>(rt: &R, alloc: Global, subject: &S, rows: &str) {
+    let code = check(alloc, subject, rows).report(rt);
+    assert!(rt; code == ExitCode::SUCCESS);
+}

@@ -23,13 +23,18 @@ struct Sizes {
     rounds: u32,
 }
 
+/// The number that the next argument is.
+fn number(arguments: &mut Args) -> Option<u32> {
+    arguments.next()?.as_str().parse().ok()
+}
+
 fn sizes_from(arguments: &mut Args) -> Option<Sizes> {
     arguments.next()?;
     Some(Sizes {
         kind: Kind::read(arguments.next()?.as_str())?,
-        flights: arguments.next()?.as_str().parse().ok()?,
-        entries: arguments.next()?.as_str().parse().ok()?,
-        rounds: arguments.next()?.as_str().parse().ok()?,
+        flights: number(arguments)?,
+        entries: number(arguments)?,
+        rounds: number(arguments)?,
     })
 }
 

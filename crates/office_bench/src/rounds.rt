@@ -1,6 +1,7 @@
 //! Rounds of requests about one flight.
 
-ghost use Rattle.editions.specs.Acts.{IsPartWithin};
+ghost use Rattle.std.specs.Prelude.{IfOk};
+ghost use Rattle.editions.specs.Acts.{IsPartWithin, IsWithinLimits};
 
 use crate::desk::{Desk, key};
 use cert_checker::Proven;
@@ -43,6 +44,16 @@ impl Kind {
         }
     }
 
+    /// What the reply to the request has, where it is accepted.
+    fn due(self) -> Heard {
+        match self {
+            Kind::Show => Heard::Row,
+            Kind::Take => Heard::Task,
+            Kind::Release => Heard::Sheet,
+            Kind::Set | Kind::Install | Kind::Late | Kind::Reopen | Kind::Depart => Heard::Edition,
+        }
+    }
+
     /// The requests of a round.
     fn round(self) -> &'static [Kind] {
         match self {
@@ -76,6 +87,16 @@ impl Kind {
     }
 }
 
+/// What a reply has.
+#[derive(Clone, Copy, PartialEq, Eq)]
+enum Heard {
+    Row,
+    Edition,
+    Task,
+    Sheet,
+    Another,
+}
+
 /// A flight as the desk knows it: its number, its edition, and the task that was last taken.
 #[derive(Drop)]
 struct Flight {
@@ -93,22 +114,21 @@ impl Flight {
         }
     }
 
-    /// Whether the reply has an edition, which is the flight's from now on.
-    fn goes_on(&mut self, reply: Reply) -> bool {
-        let Reply::Edition(edition) = reply else {
-            return false;
-        };
-        self.edition = edition;
-        true
-    }
-
-    /// Whether the reply has a task, which is kept.
-    fn takes(&mut self, reply: Reply) -> bool {
-        let Reply::Task(task) = reply else {
-            return false;
-        };
-        self.task = Some(task);
-        true
+    /// What the reply has. An edition is the flight's from now on, and a task is kept.
+    fn hears(&mut self, reply: Reply) -> Heard {
+        match reply {
+            Reply::Row(_) => Heard::Row,
+            Reply::Sheet(_) => Heard::Sheet,
+            Reply::Edition(edition) => {
+                self.edition = edition;
+                Heard::Edition
+            }
+            Reply::Task(task) => {
+                self.task = Some(task);
+                Heard::Task
+            }
+            _ => Heard::Another,
+        }
     }
 
     /// The plan of the task that was taken. It is of no containers.
@@ -144,6 +164,39 @@ fn one_more() -> Lmc {
     }
 }
 
+/// The request of this kind. It takes the task for a plan from the flight.
+fn request(alloc: Global, flight: &mut Flight, kind: Kind) -> Result<Request, NoMemory>
+    ensures { IfOk result IsWithinLimits }
+{
+    let key = key(alloc, flight.number)?;
+    let edition = flight.edition;
+    Ok(match kind {
+        Kind::Show => Request::Show {
+            key,
+            what: What::State,
+        },
+        Kind::Set => Request::Set {
+            key,
+            edition,
+            part: fuel(),
+        },
+        Kind::Take => Request::Take { key, edition },
+        Kind::Install => Request::Install {
+            key,
+            edition,
+            plan: flight.plan(alloc)?,
+        },
+        Kind::Release => Request::Release { key, edition },
+        Kind::Late => Request::Late {
+            key,
+            edition,
+            lmc: one_more(),
+        },
+        Kind::Reopen => Request::Reopen { key, edition },
+        Kind::Depart => Request::Depart { key, edition },
+    })
+}
+
 /// Makes the request, and returns whether it was accepted.
 fn is_accepted(
     alloc: Global,
@@ -151,35 +204,9 @@ fn is_accepted(
     flight: &mut Flight,
     kind: Kind,
 ) -> Result<bool, NoMemory> {
-    let key = key(alloc, flight.number)?;
-    let edition = flight.edition;
-    Ok(match kind {
-        Kind::Show => {
-            let what = What::State;
-            matches!(desk.ask(alloc, Request::Show { key, what })?, Reply::Row(_))
-        }
-        Kind::Set => {
-            let part = fuel();
-            flight.goes_on(desk.ask(alloc, Request::Set { key, edition, part })?)
-        }
-        Kind::Take => flight.takes(desk.ask(alloc, Request::Take { key, edition })?),
-        Kind::Install => {
-            let plan = flight.plan(alloc)?;
-            flight.goes_on(desk.ask(alloc, Request::Install { key, edition, plan })?)
-        }
-        Kind::Release => {
-            matches!(
-                desk.ask(alloc, Request::Release { key, edition })?,
-                Reply::Sheet(_)
-            )
-        }
-        Kind::Late => {
-            let lmc = one_more();
-            flight.goes_on(desk.ask(alloc, Request::Late { key, edition, lmc })?)
-        }
-        Kind::Reopen => flight.goes_on(desk.ask(alloc, Request::Reopen { key, edition })?),
-        Kind::Depart => flight.goes_on(desk.ask(alloc, Request::Depart { key, edition })?),
-    })
+    let request = request(alloc, flight, kind)?;
+    let reply = desk.ask(alloc, request)?;
+    Ok(flight.hears(reply) == kind.due())
 }
 
 /// Whether each request of a round was accepted.

@@ -8,7 +8,7 @@ use aircraft_file::{Aircraft, Registration, read_aircraft};
 use cert_checker::Proven;
 use certificate::{Certificate, Claim, Cuts};
 use desk_base::NoMemory;
-use editions::{Entry, FigurePart, Office, Outcome, Refusal, Reply, Request, StartFault, What};
+use editions::{Entry, FigurePart, Office, Refusal, Reply, Request, StartFault, What};
 use flight_history::{new_flight, standing_after};
 use flight_state::{Day, FlightKey, FlightName, FlightState, Leg, Lmc, Station};
 use hold_limits::{Path, Task};
@@ -203,29 +203,37 @@ fn plan_of(alloc: Global, task: Task) -> Result<Proven, NoMemory> {
     Proven::new(task, certificate).map_err(|_| NoMemory)
 }
 
-fn refused_by(alloc: Global, refusal: &Refusal) -> Result<String, AllocError> {
+fn refused_by(refusal: &Refusal) -> (&'static str, Option<u32>) {
     match refusal {
-        Refusal::Exists => format!(in alloc; "exists"),
-        Refusal::Gone => format!(in alloc; "gone"),
-        Refusal::Stale(edition) => format!(in alloc; "stale {edition}"),
-        Refusal::Ahead(edition) => format!(in alloc; "ahead {edition}"),
-        Refusal::OtherTask => format!(in alloc; "other task"),
-        Refusal::KeeperFault => format!(in alloc; "keeper fault"),
-        _ => format!(in alloc; "refused"),
+        Refusal::Exists => ("exists", None),
+        Refusal::Gone => ("gone", None),
+        Refusal::Stale(edition) => ("stale", Some(*edition)),
+        Refusal::Ahead(edition) => ("ahead", Some(*edition)),
+        Refusal::OtherTask => ("other task", None),
+        Refusal::KeeperFault => ("keeper fault", None),
+        _ => ("refused", None),
     }
 }
 
-/// What a reply says, in a word or two.
-fn said_by(alloc: Global, reply: &Reply) -> Result<String, AllocError> {
+/// What a reply says: a word or two, and an edition where it has one.
+fn said_by(reply: &Reply) -> (&'static str, Option<u32>) {
     match reply {
-        Reply::Opened(_) => format!(in alloc; "opened"),
-        Reply::Edition(edition) => format!(in alloc; "edition {edition}"),
-        Reply::Sheet(sheet) => format!(in alloc; "sheet {}", sheet.edition),
-        Reply::Task(_) => format!(in alloc; "task"),
-        Reply::Row(row) if row.as_slice() == OPENED.as_bytes() => format!(in alloc; "as opened"),
-        Reply::Row(_) => format!(in alloc; "a row"),
-        Reply::Refused(refusal) => refused_by(alloc, refusal),
-        _ => format!(in alloc; "another reply"),
+        Reply::Opened(_) => ("opened", None),
+        Reply::Edition(edition) => ("edition", Some(*edition)),
+        Reply::Sheet(sheet) => ("sheet", Some(sheet.edition)),
+        Reply::Task(_) => ("task", None),
+        Reply::Row(row) if row.as_slice() == OPENED.as_bytes() => ("as opened", None),
+        Reply::Row(_) => ("a row", None),
+        Reply::Refused(refusal) => refused_by(refusal),
+        _ => ("another reply", None),
+    }
+}
+
+/// What a reply says, as a line of a talk has it.
+fn line_of(alloc: Global, said: (&str, Option<u32>)) -> Result<String, AllocError> {
+    match said {
+        (words, Some(edition)) => format!(in alloc; "{words} {edition}"),
+        (words, None) => String::from_str(alloc, words),
     }
 }
 
@@ -295,7 +303,7 @@ fn is_answered<K: Keeper>(
 ) -> Result<bool, Fail> {
     let request = request_in(alloc, field_at(line, 0)?, edition_in(line)?, taken)?;
     let reply = reply_to(alloc, office, keeper, request)?;
-    let is_due = said_by(alloc, &reply)?.as_bytes() == field_at(line, 2)?;
+    let is_due = line_of(alloc, said_by(&reply))?.as_bytes() == field_at(line, 2)?;
     keep_task(reply, taken);
     Ok(is_due)
 }
@@ -369,51 +377,64 @@ fn a_plan_for_other_figures_is_refused(rt: HostRuntime) -> Result<(), Fail> {
     Ok(())
 }
 
-/// The lengths of an office's opening and history.
-fn lengths_of(office: Office) -> (usize, usize) {
+/// What an office leaves, as a line.
+fn left_by(alloc: Global, office: Office) -> Result<String, AllocError> {
+    let spare = office.spare();
     let (opening, history) = office.parts();
-    (opening.len(), history.len())
+    format!(in alloc;
+        "{} flights at the beginning, {} entries, room for {spare}",
+        opening.len(),
+        history.len()
+    )
 }
 
-/// A flight is opened, and again: the first wrong reply, the room that is left, and the lengths of opening and history.
-fn opened_twice(alloc: Global) -> Result<(Option<usize>, u64, (usize, usize)), Fail> {
+/// The office in which a flight is opened, and again.
+fn opened_twice(alloc: Global) -> Result<Office, Fail> {
     let mut keeper = MemoryKeeper::new(alloc);
     let mut office = Office::start(alloc, fleet(alloc)?, 3, &mut keeper)?;
     let talk = b"new|1|opened\nnew|1|exists\nrow|1|as opened";
-    let wrong = first_wrong(alloc, &mut office, &mut keeper, talk)?;
-    Ok((wrong, office.spare(), lengths_of(office)))
+    match first_wrong(alloc, &mut office, &mut keeper, talk)? {
+        None => Ok(office),
+        Some(_) => Err(Fail::new("each reply is the one that is due")),
+    }
 }
 
 #[test]
 fn a_flight_is_opened_once(rt: HostRuntime) -> Result<(), Fail> {
-    assert_eq!(rt; opened_twice(rt.alloc())?, (None, 0, (0, 3)));
+    let left = left_by(rt.alloc(), opened_twice(rt.alloc())?)?;
+    assert_eq!(rt;
+        left.as_str(),
+        "0 flights at the beginning, 3 entries, room for 0"
+    );
     Ok(())
 }
 
-fn is_failure(entry: &Entry) -> bool {
-    entry.outcome == Outcome::KeeperFailed
+/// How the turns of a history ended, a line for each.
+fn outcomes(alloc: Global, history: &[Entry]) -> Result<String, Fail> {
+    let mut text = String::new(alloc);
+    for entry in history {
+        writeln!(text, "{:?}", entry.outcome)?;
+    }
+    Ok(text)
 }
 
-/// The first failure of a history's keeper, and how many there are.
-fn failures_in(history: &[Entry]) -> (Option<usize>, usize) {
-    (
-        history.iter().position(is_failure),
-        history.iter().filter(|entry| is_failure(entry)).count(),
-    )
-}
-
-/// The second commit fails: the first wrong reply, and the failures.
-fn failing_once(alloc: Global) -> Result<(Option<usize>, (Option<usize>, usize)), Fail> {
+/// How the turns of an office ended whose second commit fails.
+fn failing_once(alloc: Global) -> Result<String, Fail> {
     let mut keeper = FailingKeeper::new(alloc, Vec::new(alloc), vec![in alloc; 2]?);
     let mut office = Office::start(alloc, fleet(alloc)?, 20, &mut keeper)?;
     let talk = b"new|1|opened\nfuel|1|keeper fault\nrow|1|as opened\nfuel|1|edition 2";
-    let wrong = first_wrong(alloc, &mut office, &mut keeper, talk)?;
-    Ok((wrong, failures_in(office.history())))
+    match first_wrong(alloc, &mut office, &mut keeper, talk)? {
+        None => outcomes(alloc, office.history()),
+        Some(_) => Err(Fail::new("each reply is the one that is due")),
+    }
 }
 
 #[test]
 fn a_commit_that_fails_changes_nothing(rt: HostRuntime) -> Result<(), Fail> {
-    assert_eq!(rt; failing_once(rt.alloc())?, (None, (Some(1), 1)));
+    assert_eq!(rt;
+        failing_once(rt.alloc())?.as_str(),
+        "Done\nKeeperFailed\nDone\nDone\n"
+    );
     Ok(())
 }
 
@@ -467,23 +488,21 @@ fn an_office_goes_on_with_the_kept_rows(rt: HostRuntime) -> Result<(), Fail> {
     Ok(())
 }
 
-/// The edition, the releases, the fuel and the number of late changes of a flight.
-fn figures_of(s: &FlightState) -> (u32, u32, Kg, usize) {
+/// The figures of a flight, as a line.
+fn figures_of(alloc: Global, s: &FlightState) -> Result<String, AllocError> {
     let changes = s.lmcs.as_slice().len();
-    (s.edition, s.releases, s.base.fuel.take_off, changes)
+    format!(in alloc;
+        "edition {} releases {} fuel {} changes {changes}",
+        s.edition, s.releases, s.base.fuel.take_off.0
+    )
 }
 
 /// These figures of the flight, as the history has them.
-fn standing_in(
-    alloc: Global,
-    aircraft: &Aircraft,
-    history: &[Entry],
-) -> Result<(u32, u32, Kg, usize), Fail> {
+fn standing_in(alloc: Global, aircraft: &Aircraft, history: &[Entry]) -> Result<String, Fail> {
     let opened = new_flight(alloc, aircraft, leg(b"DAIAB")?);
-    match &standing_after(alloc, &opened, history) {
-        Ok(Some(standing)) => Ok(figures_of(standing)),
-        Ok(None) => Err(Fail::new("the numbers are within their types")),
-        Err(_) => Err(Fail::new("there is memory")),
+    match &standing_after(alloc, &opened, history)? {
+        Some(standing) => Ok(figures_of(alloc, standing)?),
+        None => Err(Fail::new("the numbers are within their types")),
     }
 }
 
@@ -498,7 +517,7 @@ fn worked_office(alloc: Global) -> Result<Office, Fail> {
 }
 
 /// The figures of the worked office's flight, as its history has them.
-fn worked_standing(alloc: Global) -> Result<(u32, u32, Kg, usize), Fail> {
+fn worked_standing(alloc: Global) -> Result<String, Fail> {
     let office = worked_office(alloc)?;
     let aircraft = aircraft(alloc)?;
     standing_in(alloc, &aircraft, office.history())
@@ -506,6 +525,9 @@ fn worked_standing(alloc: Global) -> Result<(u32, u32, Kg, usize), Fail> {
 
 #[test]
 fn the_standing_is_that_of_the_history(rt: HostRuntime) -> Result<(), Fail> {
-    assert_eq!(rt; worked_standing(rt.alloc())?, (3, 1, Kg(9_000), 1));
+    assert_eq!(rt;
+        worked_standing(rt.alloc())?.as_str(),
+        "edition 3 releases 1 fuel 9000 changes 1"
+    );
     Ok(())
 }

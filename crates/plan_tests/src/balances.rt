@@ -1,28 +1,15 @@
 // Tasks of a few containers in a hold of two compartments, and what placements of them are worth.
-use crate::small_tasks::{Edit, field_at, numbers_of, task_with, text_of};
+use crate::pass;
+use crate::small_tasks::{SIDED, numbers_of, task_from, task_with};
+use case_rows::{Subject, field};
 use hold_limits::{
-    Hold, HoldFault, Item, Lateral, Loose, Path, Task, TaskFault, UldId, distance_from_ideal,
-    hold_index_of, is_in_window, is_rising, is_sound, lateral_difference_of, lateral_of, outcome,
+    Hold, Item, Lateral, Path, Task, UldId, distance_from_ideal, hold_index_of, is_in_window,
+    is_rising, is_sound, lateral_difference_of, lateral_of, outcome,
 };
 use mass_units::{Kg, Ticks};
 use std::alloc::{AllocError, Global};
+use std::str;
 use std::test::Fail;
-
-/// The containers offered the other way round, so that branch order turns them back.
-const TURNED: Edit = (
-    "item AKE10001XX 1000\nitem AKE10002XX 800\n",
-    "item AKE10002XX 800\nitem AKE10001XX 1000\n",
-);
-
-const BULK_100: Edit = ("base", "loose 51 100\nbase");
-
-const TASK_2: Edit = ("TASK 1", "TASK 2");
-
-/// 11 and 42 on the right, 12 and 41 on the left, and the bulk position on the right.
-const SIDES: Edit = (
-    "item AKE10001XX",
-    "side 11 right\nside 12 left\nside 41 left\nside 42 right\nside 51 right\nlateral 500\nitem AKE10001XX",
-);
 
 /// What a hold tells of its positions 3, 4 and 5, and of a container.
 fn told_by_number(alloc: Global, hold: &Hold) -> Result<String, Fail> {
@@ -30,7 +17,10 @@ fn told_by_number(alloc: Global, hold: &Hold) -> Result<String, Fail> {
         id: UldId::read(b"AKE10001XX").ok_or("an identity")?,
         mass: Kg(1500),
     };
-    let names = [text_of(hold.name_at(3))?, text_of(hold.name_at(5))?];
+    let names = [
+        str::from_utf8(hold.name_at(3))?,
+        str::from_utf8(hold.name_at(5))?,
+    ];
     let accepted = (
         hold.accepts_at(&container, 3),
         hold.accepts_at(&container, 4),
@@ -44,7 +34,7 @@ fn told_by_number(alloc: Global, hold: &Hold) -> Result<String, Fail> {
 
 #[test]
 fn a_hold_knows_its_positions_by_number(rt: HostRuntime) -> Result<(), Fail> {
-    let task = task_with(rt.alloc(), &[])?;
+    let task = task_with(rt.alloc(), "")?;
     assert_eq!(rt;
         told_by_number(rt.alloc(), task.hold())?.as_str(),
         "(5, 600) [\"42\", \"\"] (true, false) false"
@@ -52,13 +42,30 @@ fn a_hold_knows_its_positions_by_number(rt: HostRuntime) -> Result<(), Fail> {
     Ok(())
 }
 
+/// The take-off index and the distance of a sound path, and its mass on the right less that on the left. A case has the path,
+/// a digit for each position, and edits of the task with sides.
+struct Paths;
+
+impl Subject for Paths {
+    fn said(&self, alloc: Global, case: &str) -> Result<String, Fail> {
+        let task = task_from(alloc, SIDED, case)?;
+        let path = Path::try_from(numbers_of(alloc, field(case, 0)?)?.as_slice())?;
+        if !is_sound(&task, path.as_slice()) {
+            return Ok(String::from_str(alloc, "not sound")?);
+        }
+        let lateral = lateral_of(&task, &path);
+        Ok(format!(in alloc; "{:?} {lateral}", outcome(&task, &path))?)
+    }
+}
+
+// In the first case the containers are offered the other way round, and branch order turns them back. In the second a loose
+// load is on the bulk position.
 #[test]
-fn a_path_has_its_take_off_index_and_its_distance(rt: HostRuntime) -> Result<(), Fail> {
-    let task = task_with(rt.alloc(), &[TURNED])?;
-    let path = Path::try_from([1, 2].as_slice())?;
-    assert!(rt; is_sound(&task, path.as_slice()));
-    assert_eq!(rt; outcome(&task, &path), (Ticks(4_920_000), 80_000));
-    Ok(())
+fn a_path_has_its_take_off_index_and_its_distance(rt: HostRuntime) {
+    let rows =
+        "(Ticks(4920000), 80000) -1800|12|item AKE10001XX 1000~item AKE10002XX 800=>item AKE10002XX 800~item AKE10001XX 1000
+(Ticks(5150000), 150000) -100|13|base=>loose 51 100~base";
+    pass(&rt, rt.alloc(), &Paths, rows);
 }
 
 /// What is asked of a placement: its hold index, its lateral difference, or whether twins rise.
@@ -81,181 +88,206 @@ fn told_of(alloc: Global, task: &Task, prefix: &[u8], asked: Asked) -> Result<St
     })
 }
 
-/// The same of placements with a comma between them, a digit for each position.
-fn told_of_each(alloc: Global, task: &Task, prefixes: &[u8], asked: Asked) -> Result<String, Fail> {
-    let mut told = String::new(alloc);
-    for digits in prefixes.split(|byte| *byte == b',') {
-        let prefix = numbers_of(alloc, digits)?;
-        told.push_str(told_of(alloc, task, prefix.as_slice(), asked)?.as_str())?;
+/// The same of placements with a comma between them, a digit for each position. A case has them and edits of the task with
+/// sides.
+struct Told(Asked);
+
+impl Subject for Told {
+    fn said(&self, alloc: Global, case: &str) -> Result<String, Fail> {
+        let task = task_from(alloc, SIDED, case)?;
+        let mut told = String::new(alloc);
+        for digits in field(case, 0)?.split(',') {
+            let prefix = numbers_of(alloc, digits)?;
+            told.push_str(told_of(alloc, &task, prefix.as_slice(), self.0)?.as_str())?;
+        }
+        Ok(told)
     }
-    Ok(told)
 }
 
 #[test]
-fn loose_loads_count_and_unknown_positions_do_not(rt: HostRuntime) -> Result<(), Fail> {
-    let task = task_with(rt.alloc(), &[TURNED, BULK_100])?;
-    assert_eq!(rt;
-        told_of_each(rt.alloc(), &task, b",3,9,12,21", Asked::Index)?.as_str(),
-        "70000 670000 70000 -10000 150000 "
-    );
-    Ok(())
+fn loose_loads_count_and_unknown_positions_do_not(rt: HostRuntime) {
+    let row = "70000 670000 70000 -10000 150000 |,3,9,12,21|base=>loose 51 100~base|\
+        item AKE10001XX 1000~item AKE10002XX 800=>item AKE10002XX 800~item AKE10001XX 1000";
+    pass(&rt, rt.alloc(), &Told(Asked::Index), row);
 }
 
 #[test]
-fn both_ends_belong_to_the_window(rt: HostRuntime) -> Result<(), Fail> {
-    let task = task_with(rt.alloc(), &[])?;
-    for inside in [-10_000_000, -9_999_999, 0, 10_000_000] {
-        assert!(rt; is_in_window(&task, Ticks(inside)), "at {inside}");
-    }
-    for outside in [i64::MIN, -10_000_001, 10_000_001, i64::MAX] {
-        assert!(rt; !is_in_window(&task, Ticks(outside)), "at {outside}");
-    }
-    Ok(())
+fn a_lateral_difference_is_right_less_left(rt: HostRuntime) {
+    let row = "100 -900 100 -100 1900 -1700 |,1,9,13,03,21|base=>loose 51 100~base";
+    pass(&rt, rt.alloc(), &Told(Asked::Difference), row);
 }
 
-/// The distances of take-off indices from the ideal band.
-fn distances_of(alloc: Global, task: &Task, indices: &[i64]) -> Result<Vec<u64>, Fail> {
-    let mut distances = Vec::new(alloc);
-    for take_off in indices {
-        distances.push(distance_from_ideal(task, Ticks(*take_off)))?;
-    }
-    Ok(distances)
-}
-
-const TAKE_OFFS: [i64; 7] = [
-    4_920_000,
-    5_000_000,
-    5_100_000,
-    5_200_000,
-    5_300_000,
-    i64::MIN,
-    i64::MAX,
-];
-
-const DISTANCES: [u64; 7] = [
-    80_000,
-    0,
-    0,
-    0,
-    100_000,
-    9_223_372_036_859_775_808,
-    9_223_372_036_849_575_807,
-];
-
+// A container, and three of another mass, of which two are twins.
 #[test]
-fn the_distance_is_to_the_nearer_end_of_the_band(rt: HostRuntime) -> Result<(), Fail> {
-    let wider = ("ideal 50.00000 50.00000", "ideal 50.00000 52.00000");
-    let task = task_with(rt.alloc(), &[wider])?;
-    assert_eq!(rt;
-        distances_of(rt.alloc(), &task, &TAKE_OFFS)?.as_slice(),
-        DISTANCES.as_slice()
-    );
-    Ok(())
+fn twins_rise_where_the_later_has_the_greater_number(rt: HostRuntime) {
+    let row = "true true true false false true false |,32,102,120,121,1320,2310|\
+        item AKE10001XX 1000~item AKE10002XX 800=>\
+        item AKE10001XX 900~item AKE10002XX 1000~item PMC10003XX 1000~item AKE10004XX 1000";
+    pass(&rt, rt.alloc(), &Told(Asked::Rising), row);
 }
 
-/// The fault of a task of this hold in which one index is beyond the limit.
-fn fault_beyond(alloc: Global, hold: Hold, which: usize) -> Option<TaskFault> {
-    let at = |place: usize| Ticks(if place == which { -1_000_000_001 } else { 0 });
-    Task::new(
-        hold,
-        Vec::new(alloc),
-        Vec::new(alloc),
-        at(1),
-        at(2),
-        at(3),
-        at(4),
-        at(5),
-    )
-    .err()
+/// Whether the window has an index, and the distance of the index, as that of the take-off, from the ideal band. A case has
+/// the index and edits of the worked task.
+struct Indices;
+
+impl Subject for Indices {
+    fn said(&self, alloc: Global, case: &str) -> Result<String, Fail> {
+        let task = task_with(alloc, case)?;
+        let index = Ticks(field(case, 0)?.parse::<i64>()?);
+        let inside = is_in_window(&task, index);
+        Ok(format!(in alloc; "{inside} {}", distance_from_ideal(&task, index))?)
+    }
 }
 
 #[test]
-fn an_index_beyond_the_limit_is_named_by_its_number(rt: HostRuntime) -> Result<(), Fail> {
-    let alloc = rt.alloc();
-    for which in 1..6 {
-        let fault = fault_beyond(alloc, hold_with(alloc, &[])?, which);
-        assert_eq!(rt; fault, Some(TaskFault::Range(which)));
-    }
-    Ok(())
-}
-
-/// Whether a task is the same as the worked one with these edits.
-fn is_same_as(alloc: Global, task: &Task, edits: &[Edit]) -> Result<bool, Fail> {
-    Ok(task.same(&task_with(alloc, edits)?))
+fn both_ends_belong_to_the_window(rt: HostRuntime) {
+    let rows = "true 15000000|-10000000
+true 14999999|-9999999
+true 5000000|0
+true 5000000|10000000
+false 9223372036859775808|-9223372036854775808
+false 15000001|-10000001
+false 5000001|10000001
+false 9223372036849775807|9223372036854775807";
+    pass(&rt, rt.alloc(), &Indices, rows);
 }
 
 #[test]
-fn a_copy_is_the_same_task_and_another_window_is_not(rt: HostRuntime) -> Result<(), Fail> {
-    let alloc = rt.alloc();
-    let no_mass = ("base", "loose 51 0\nbase");
-    let one = task_with(alloc, &[no_mass])?;
-    assert!(rt; one.same(&one.copy(alloc)?));
-    assert!(rt; !is_same_as(alloc, &one, &[])?);
-    let wider = ("ideal 50.00000 50.00000", "ideal 50.00000 50.00001");
-    assert!(rt; !is_same_as(alloc, &one, &[no_mass, wider])?);
-    Ok(())
+fn the_distance_is_to_the_nearer_end_of_the_band(rt: HostRuntime) {
+    let rows = "true 80000|4920000|ideal 50.00000 50.00000=>ideal 50.00000 52.00000
+true 0|5000000|ideal 50.00000 50.00000=>ideal 50.00000 52.00000
+true 0|5100000|ideal 50.00000 50.00000=>ideal 50.00000 52.00000
+true 0|5200000|ideal 50.00000 50.00000=>ideal 50.00000 52.00000
+true 100000|5300000|ideal 50.00000 50.00000=>ideal 50.00000 52.00000
+false 9223372036859775808|-9223372036854775808|ideal 50.00000 50.00000=>ideal 50.00000 52.00000
+false 9223372036849575807|9223372036854775807|ideal 50.00000 50.00000=>ideal 50.00000 52.00000";
+    pass(&rt, rt.alloc(), &Indices, rows);
 }
 
-/// The hold of the worked task, with or without sides.
-fn hold_with(alloc: Global, edits: &[Edit]) -> Result<Hold, Fail> {
+/// The index at a place: beyond the limit at the one that is asked for.
+fn index_at(place: usize, beyond: usize) -> Ticks {
+    Ticks(if place == beyond { -1_000_000_001 } else { 0 })
+}
+
+/// The fault of a task in which the index with this number is beyond the limit.
+struct Beyond;
+
+impl Subject for Beyond {
+    fn said(&self, alloc: Global, case: &str) -> Result<String, Fail> {
+        let beyond = case.parse::<usize>()?;
+        let made = Task::new(
+            hold_with(alloc, "")?,
+            Vec::new(alloc),
+            Vec::new(alloc),
+            index_at(1, beyond),
+            index_at(2, beyond),
+            index_at(3, beyond),
+            index_at(4, beyond),
+            index_at(5, beyond),
+        );
+        Ok(format!(in alloc; "{:?}", made.err())?)
+    }
+}
+
+#[test]
+fn an_index_beyond_the_limit_is_named_by_its_number(rt: HostRuntime) {
+    let rows = "Some(Range(1))|1
+Some(Range(2))|2
+Some(Range(3))|3
+Some(Range(4))|4
+Some(Range(5))|5";
+    pass(&rt, rt.alloc(), &Beyond, rows);
+}
+
+/// Whether a task is the same as its copy, and as the worked task with the edits of a case; and whether its hold is.
+fn told_of_sameness(alloc: Global, one: &Task, edits: &str) -> Result<String, Fail> {
+    let (copy, other) = (one.copy(alloc)?, task_with(alloc, edits)?);
+    Ok(format!(in alloc; "{} {}", one.same(&copy), one.same(&other))?)
+}
+
+/// What is told of the worked task with a loose load of no mass.
+struct Sameness;
+
+impl Subject for Sameness {
+    fn said(&self, alloc: Global, case: &str) -> Result<String, Fail> {
+        let one = task_with(alloc, "base=>loose 51 0\nbase")?;
+        told_of_sameness(alloc, &one, case)
+    }
+}
+
+#[test]
+fn a_copy_is_the_same_task_and_another_window_is_not(rt: HostRuntime) {
+    let rows = "true true|base=>loose 51 0~base
+true false|
+true false|base=>loose 51 0~base|ideal 50.00000 50.00000=>ideal 50.00000 50.00001";
+    pass(&rt, rt.alloc(), &Sameness, rows);
+}
+
+/// The hold of the worked task with these edits.
+fn hold_with(alloc: Global, edits: &str) -> Result<Hold, Fail> {
     Ok(task_with(alloc, edits)?.hold().copy(alloc)?)
 }
 
 /// The lateral limit of a hold, its number of sides, and the sides of positions 0 to 5.
 fn sides_text(alloc: Global, hold: &Hold) -> Result<String, AllocError> {
     let most = hold.lateral().map(|lateral| lateral.most);
-    let mut text = format!(in alloc; "{most:?} {}:", hold.sides().len())?;
-    for number in 0..6 {
-        text.push_str(format!(in alloc; " {}", hold.side_at(number))?.as_str())?;
-    }
-    Ok(text)
+    let sides = [
+        hold.side_at(0),
+        hold.side_at(1),
+        hold.side_at(2),
+        hold.side_at(3),
+        hold.side_at(4),
+        hold.side_at(5),
+    ];
+    format!(in alloc; "{most:?} {}: {sides:?}", hold.sides().len())
 }
 
 #[test]
 fn a_lateral_limit_gives_positions_their_sides(rt: HostRuntime) -> Result<(), Fail> {
-    let plain = hold_with(rt.alloc(), &[])?;
+    let plain = task_with(rt.alloc(), "")?;
     assert_eq!(rt;
-        sides_text(rt.alloc(), &plain)?.as_str(),
-        "None 0: 0 0 0 0 0 0"
+        sides_text(rt.alloc(), plain.hold())?.as_str(),
+        "None 0: [0, 0, 0, 0, 0, 0]"
     );
-    let sided = hold_with(rt.alloc(), &[TASK_2, SIDES])?;
+    let sided = task_from(rt.alloc(), SIDED, "")?;
     assert_eq!(rt;
-        sides_text(rt.alloc(), &sided)?.as_str(),
-        "Some(Kg(500)) 5: 1 -1 -1 1 1 0"
+        sides_text(rt.alloc(), sided.hold())?.as_str(),
+        "Some(Kg(500)) 5: [1, -1, -1, 1, 1, 0]"
     );
     Ok(())
 }
 
-/// Whether a hold is the same as that of the worked task with these edits.
-fn is_same_hold(alloc: Global, hold: &Hold, edits: &[Edit]) -> Result<bool, Fail> {
-    Ok(hold.same(&hold_with(alloc, edits)?))
+/// Whether a hold is the same as its copy, and as another one.
+fn told_of_copy(alloc: Global, hold: &Hold, other: &Hold) -> Result<String, Fail> {
+    Ok(format!(in alloc; "{} {}", hold.same(&hold.copy(alloc)?), hold.same(other))?)
+}
+
+/// What is told of the hold with sides beside that with the edits of a case, or beside the worked one.
+struct SameHold;
+
+impl Subject for SameHold {
+    fn said(&self, alloc: Global, case: &str) -> Result<String, Fail> {
+        let sided = task_from(alloc, SIDED, "")?;
+        let other = if case == "worked" {
+            task_with(alloc, "")?
+        } else {
+            task_from(alloc, SIDED, case)?
+        };
+        told_of_copy(alloc, sided.hold(), other.hold())
+    }
 }
 
 #[test]
-fn holds_with_other_lateral_limits_are_not_the_same(rt: HostRuntime) -> Result<(), Fail> {
-    let alloc = rt.alloc();
-    let sided = hold_with(alloc, &[TASK_2, SIDES])?;
-    assert!(rt; sided.same(&sided.copy(alloc)?));
-    assert!(rt; !is_same_hold(alloc, &sided, &[])?);
-    let wider = ("lateral 500", "lateral 501");
-    assert!(rt; !is_same_hold(alloc, &sided, &[TASK_2, SIDES, wider])?);
-    Ok(())
+fn holds_with_other_lateral_limits_are_not_the_same(rt: HostRuntime) {
+    let rows = "true true|\ntrue false|worked\ntrue false|lateral 500=>lateral 501";
+    pass(&rt, rt.alloc(), &SameHold, rows);
 }
 
-/// Sides of positions, a row for each: the fault that they have, and the positions, `l` for those on the left.
-const LISTED_SIDES: &[u8] = b"None|
-None|2l4r
-Some(Side(0))|5r
-Some(Side(1))|0r0l
-Some(Side(1))|1r0r
-Some(Side(2))|0r2l2l
-Some(Side(2))|0r3r9l1r";
-
-/// The sides that are spelled so.
-fn sides_in(alloc: Global, spelled: &[u8]) -> Result<Vec<(u8, bool)>, Fail> {
+/// The sides that are spelled so: positions, and `l` behind those on the left.
+fn sides_in(alloc: Global, spelled: &str) -> Result<Vec<(u8, bool)>, Fail> {
     let mut sides = Vec::new(alloc);
     let mut number = 0;
-    for byte in spelled {
+    for byte in spelled.as_bytes() {
         match *byte {
             b'l' => sides.push((number, false))?,
             b'r' => sides.push((number, true))?,
@@ -265,31 +297,30 @@ fn sides_in(alloc: Global, spelled: &[u8]) -> Result<Vec<(u8, bool)>, Fail> {
     Ok(sides)
 }
 
-/// The fault of the worked hold with the sides that are spelled so.
-fn fault_of_sides(alloc: Global, spelled: &[u8]) -> Result<String, Fail> {
-    let lateral = Lateral {
-        most: Kg(500),
-        sides: sides_in(alloc, spelled)?.into(),
-    };
-    let made = hold_with(alloc, &[])?.with_lateral(lateral);
-    Ok(format!(in alloc; "{:?}", made.err())?)
-}
+/// The fault of the worked hold with the sides of a case.
+struct ListedSides;
 
-/// The first row of sides that have another fault.
-fn first_wrong_sides(alloc: Global) -> Result<Option<usize>, Fail> {
-    for (at, row) in LISTED_SIDES.split(|byte| *byte == b'\n').enumerate() {
-        let spelled = field_at(alloc, row, 1)?;
-        if fault_of_sides(alloc, spelled.as_bytes())? != field_at(alloc, row, 0)? {
-            return Ok(Some(at));
-        }
+impl Subject for ListedSides {
+    fn said(&self, alloc: Global, case: &str) -> Result<String, Fail> {
+        let lateral = Lateral {
+            most: Kg(500),
+            sides: sides_in(alloc, case)?.into(),
+        };
+        let made = hold_with(alloc, "")?.with_lateral(lateral);
+        Ok(format!(in alloc; "{:?}", made.err())?)
     }
-    Ok(None)
 }
 
 #[test]
-fn sides_are_of_known_positions_in_rising_order(rt: HostRuntime) -> Result<(), Fail> {
-    assert_eq!(rt; first_wrong_sides(rt.alloc())?, None);
-    Ok(())
+fn sides_are_of_known_positions_in_rising_order(rt: HostRuntime) {
+    let rows = "None|
+None|2l4r
+Some(Side(0))|5r
+Some(Side(1))|0r0l
+Some(Side(1))|1r0r
+Some(Side(2))|0r2l2l
+Some(Side(2))|0r3r9l1r";
+    pass(&rt, rt.alloc(), &ListedSides, rows);
 }
 
 const BEYOND: [i64; 3] = [501, -501, i64::MIN];
@@ -302,49 +333,23 @@ fn count_within(hold: &Hold, differences: &[i64]) -> usize {
         .count()
 }
 
-#[test]
-fn a_difference_that_meets_the_lateral_limit_is_within_it(rt: HostRuntime) -> Result<(), Fail> {
-    let sided = hold_with(rt.alloc(), &[TASK_2, SIDES])?;
-    assert_eq!(rt; count_within(&sided, &[0, 500, -500]), 3);
-    assert_eq!(rt; count_within(&sided, &BEYOND), 0);
-    Ok(())
-}
-
-#[test]
-fn each_difference_is_within_no_lateral_limit(rt: HostRuntime) -> Result<(), Fail> {
-    let plain = hold_with(rt.alloc(), &[])?;
-    assert_eq!(rt; count_within(&plain, &[0, 500, -500]), 3);
-    assert_eq!(rt; count_within(&plain, &BEYOND), 3);
-    Ok(())
-}
-
-#[test]
-fn a_lateral_difference_is_right_less_left(rt: HostRuntime) -> Result<(), Fail> {
-    let task = task_with(rt.alloc(), &[TASK_2, SIDES, BULK_100])?;
-    assert_eq!(rt;
-        told_of_each(rt.alloc(), &task, b",1,9,13,03,21", Asked::Difference)?.as_str(),
-        "100 -900 100 -100 1900 -1700 "
+/// How many differences up to 500 kg, of three, are within the lateral limit of a hold; and how many beyond it.
+fn within_text(alloc: Global, hold: &Hold) -> Result<String, AllocError> {
+    let (met, beyond) = (
+        count_within(hold, &[0, 500, -500]),
+        count_within(hold, &BEYOND),
     );
-    let path = Path::try_from([1, 3].as_slice())?;
-    assert!(rt; is_sound(&task, path.as_slice()));
-    assert_eq!(rt; lateral_of(&task, &path), -100);
-    Ok(())
+    format!(in alloc; "{met} {beyond}")
 }
 
-/// A container, and three of another mass, of which two are twins.
-const THREE_EQUAL: Edit = (
-    "item AKE10001XX 1000\nitem AKE10002XX 800\n",
-    "item AKE10001XX 900\nitem AKE10002XX 1000\nitem PMC10003XX 1000\nitem AKE10004XX 1000\n",
-);
-
 #[test]
-fn twins_rise_where_the_later_has_the_greater_number(rt: HostRuntime) -> Result<(), Fail> {
-    let task = task_with(rt.alloc(), &[THREE_EQUAL])?;
-    let prefixes = b",32,102,120,121,1320,2310";
-    assert_eq!(rt;
-        told_of_each(rt.alloc(), &task, prefixes, Asked::Rising)?.as_str(),
-        "true true true false false true false "
-    );
+fn a_difference_is_within_the_lateral_limit_that_it_meets_or_within_none(
+    rt: HostRuntime,
+) -> Result<(), Fail> {
+    let sided = task_from(rt.alloc(), SIDED, "")?;
+    assert_eq!(rt; within_text(rt.alloc(), sided.hold())?.as_str(), "3 0");
+    let plain = task_with(rt.alloc(), "")?;
+    assert_eq!(rt; within_text(rt.alloc(), plain.hold())?.as_str(), "3 3");
     Ok(())
 }
 
@@ -364,28 +369,26 @@ fn many_items(alloc: Global, count: u8) -> Result<Vec<Item>, Fail> {
 }
 
 /// The fault of a task with so many containers.
-fn fault_of_many(alloc: Global, count: u8) -> Result<Option<TaskFault>, Fail> {
-    let hold = hold_with(alloc, &[])?;
-    let loose: Vec<Loose> = Vec::new(alloc);
-    let made = Task::new(
-        hold,
-        many_items(alloc, count)?,
-        loose,
-        Ticks(0),
-        Ticks(0),
-        Ticks(0),
-        Ticks(0),
-        Ticks(0),
-    );
-    Ok(made.err())
+struct Many;
+
+impl Subject for Many {
+    fn said(&self, alloc: Global, case: &str) -> Result<String, Fail> {
+        let items = many_items(alloc, case.parse::<u8>()?)?;
+        let made = Task::new(
+            hold_with(alloc, "")?,
+            items,
+            Vec::new(alloc),
+            Ticks(0),
+            Ticks(0),
+            Ticks(0),
+            Ticks(0),
+            Ticks(0),
+        );
+        Ok(format!(in alloc; "{:?}", made.err())?)
+    }
 }
 
 #[test]
-fn a_task_has_up_to_sixty_containers(rt: HostRuntime) -> Result<(), Fail> {
-    assert_eq!(rt; fault_of_many(rt.alloc(), 60)?, None);
-    assert_eq!(rt;
-        fault_of_many(rt.alloc(), 61)?,
-        Some(TaskFault::TooManyItems)
-    );
-    Ok(())
+fn a_task_has_up_to_sixty_containers(rt: HostRuntime) {
+    pass(&rt, rt.alloc(), &Many, "None|60\nSome(TooManyItems)|61");
 }

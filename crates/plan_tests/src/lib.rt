@@ -3,6 +3,15 @@
 #![tactic(auto)]
 
 #[cfg(test)]
+use case_rows::{Subject, check};
+#[cfg(test)]
+use std::alloc::Global;
+#[cfg(test)]
+use std::io::Eprint;
+#[cfg(test)]
+use std::process::{Abort, ExitCode, Termination};
+
+#[cfg(test)]
 mod answers;
 #[cfg(test)]
 mod balances;
@@ -16,3 +25,10 @@ mod loads;
 mod partials;
 #[cfg(test)]
 mod small_tasks;
+
+/// Fails a test where a row of a table is wrong, and prints the row.
+#[cfg(test)]
+fn pass<R: Abort + Eprint, S: Subject>(rt: &R, alloc: Global, subject: &S, rows: &str) {
+    let code = check(alloc, subject, rows).report(rt);
+    assert!(rt; code == ExitCode::SUCCESS);
+}

@@ -2,7 +2,9 @@
 // programs, at every prefix.
 ghost use Rattle.std.specs.Prelude.{◌<◌, ◌≡◌, length};
 
-use crate::small_tasks::edited;
+use crate::pass;
+use crate::small_tasks::task_from;
+use case_rows::Subject;
 use hold_limits::Task;
 use hold_partial::{Partial, advances};
 use hold_reach::reference::{broken_limit, broken_rule};
@@ -10,7 +12,6 @@ use hold_reach::reference_reach::{
     bound_of, falls_at, is_position_open, is_prefix_viable, lateral_reach_of, reach_of,
     wide_bound_of, wide_reach_of,
 };
-use problem_text::read_task;
 use std::alloc::Global;
 use std::test::Fail;
 
@@ -36,18 +37,17 @@ ideal 50.00000 50.10000
 END
 ";
 
-/// Small tasks, a row for each: its name, and then pairs of a text of the task and of what stands in its place. A `~` stands
-/// for the end of a line.
-const SMALL_TASKS: &[u8] = b"two twins, and one of their mass but of another kind
-two twins after a heavier container|item PMC10001XX 800|item AKE10001XX 1000
-three twins|item AKE10002XX 800~item PMC10001XX 800~item AKE10003XX 800~|item AKE10002XX 500~item AKE10001XX 500~item AKE10003XX 500~
-a combined limit met exactly|combined 1900|combined 1600|-1.00000 3.00000|-100.00000 100.00000
-a combined limit broken by a kilogram|combined 1900|combined 1599|-1.00000 3.00000|-100.00000 100.00000
-a cumulative limit met exactly by a loose load|loose 51 100|loose 51 150
-loose loads over a limit|loose 51 100|loose 51 951
-sides|TASK 1|TASK 2|item AKE10002XX|side 11 right~side 12 left~side 41 left~side 42 right~lateral 500~item AKE10002XX|-1.00000 3.00000|-100.00000 100.00000
-a lateral limit met exactly by a loose load on the right|TASK 1|TASK 2|item AKE10002XX|side 11 left~side 41 right~side 42 left~side 51 right~lateral 700~item AKE10002XX|-1.00000 3.00000|-100.00000 100.00000
-the same limit broken by a kilogram|TASK 1|TASK 2|item AKE10002XX|side 11 left~side 41 right~side 42 left~side 51 right~lateral 699~item AKE10002XX|-1.00000 3.00000|-100.00000 100.00000";
+/// Small tasks: edits of that text, behind a name. A `~` stands for the end of a line.
+const SMALL_TASKS: &str = "agrees|two twins, and one of their mass but of another kind
+agrees|two twins after a heavier container|item PMC10001XX 800=>item AKE10001XX 1000
+agrees|three twins|item AKE10002XX 800~item PMC10001XX 800~item AKE10003XX 800~=>item AKE10002XX 500~item AKE10001XX 500~item AKE10003XX 500~
+agrees|a combined limit met exactly|combined 1900=>combined 1600|-1.00000 3.00000=>-100.00000 100.00000
+agrees|a combined limit broken by a kilogram|combined 1900=>combined 1599|-1.00000 3.00000=>-100.00000 100.00000
+agrees|a cumulative limit met exactly by a loose load|loose 51 100=>loose 51 150
+agrees|loose loads over a limit|loose 51 100=>loose 51 951
+agrees|sides|TASK 1=>TASK 2|item AKE10002XX=>side 11 right~side 12 left~side 41 left~side 42 right~lateral 500~item AKE10002XX|-1.00000 3.00000=>-100.00000 100.00000
+agrees|a lateral limit met exactly by a loose load on the right|TASK 1=>TASK 2|item AKE10002XX=>side 11 left~side 41 right~side 42 left~side 51 right~lateral 700~item AKE10002XX|-1.00000 3.00000=>-100.00000 100.00000
+agrees|the same limit broken by a kilogram|TASK 1=>TASK 2|item AKE10002XX=>side 11 left~side 41 right~side 42 left~side 51 right~lateral 699~item AKE10002XX|-1.00000 3.00000=>-100.00000 100.00000";
 
 fn reaches_agree(partial: &Partial<'_>) -> bool {
     let task = partial.task();
@@ -173,19 +173,17 @@ fn task_agrees(task: &Task) -> bool {
     }
 }
 
-// The first small task of which something else is said.
-fn first_wrong_task(alloc: Global) -> Result<Option<usize>, Fail> {
-    for (at, row) in SMALL_TASKS.split(|byte| *byte == b'\n').enumerate() {
-        let task = read_task(alloc, edited(alloc, TWINS, row)?.as_bytes())?;
-        if !task_agrees(&task) {
-            return Ok(Some(at));
-        }
+/// Whether the partial placements of a task agree with the plain programs.
+struct Agreement;
+
+impl Subject for Agreement {
+    fn said(&self, alloc: Global, case: &str) -> Result<String, Fail> {
+        let agrees = task_agrees(&task_from(alloc, TWINS, case)?);
+        Ok(String::from_str(alloc, if agrees { "agrees" } else { "differs" })?)
     }
-    Ok(None)
 }
 
 #[test]
-fn a_partial_placement_agrees_with_the_plain_programs(rt: HostRuntime) -> Result<(), Fail> {
-    assert_eq!(rt; first_wrong_task(rt.alloc())?, None);
-    Ok(())
+fn a_partial_placement_agrees_with_the_plain_programs(rt: HostRuntime) {
+    pass(&rt, rt.alloc(), &Agreement, SMALL_TASKS);
 }

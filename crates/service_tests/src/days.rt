@@ -3,7 +3,8 @@ use aircraft_file::read_aircraft;
 use desk_base::NoMemory;
 use desk_http::{ConnEnd, Solo, Tools, serve_connection};
 use editions::Office;
-use keeper::{FailingKeeper, Keeper, MemoryKeeper};
+use http_wire::Refusal;
+use keeper::FailingKeeper;
 use load_io::MemoryLink;
 use placer::Direct;
 use std::alloc::Global;
@@ -475,176 +476,183 @@ const HEAD_ANSWER: &str = "\
     \r\n\
     {\"error\":\"head\"}";
 
-fn joined(alloc: Global, texts: &[&str]) -> Result<Vec<u8>, NoMemory> {
+/// A connection with an office, and what fails.
+#[derive(Clone, Copy)]
+struct Case {
+    /// What is asked, so many times over.
+    asked: &'static [&'static str],
+    times: u32,
+    /// The most bytes that a read gives.
+    most: u32,
+    /// How many entries the office has room for.
+    capacity: u32,
+    /// The read, the write and the commit that fail. They are counted from 1, so none has the number 0.
+    fail_read: u64,
+    fail_write: u64,
+    fail_commit: u64,
+}
+
+impl Case {
+    /// This is asked once, and nothing fails.
+    fn of(asked: &'static [&'static str]) -> Case {
+        Case {
+            asked,
+            times: 1,
+            most: 100,
+            capacity: 2_000,
+            fail_read: 0,
+            fail_write: 0,
+            fail_commit: 0,
+        }
+    }
+
+    fn link(self, alloc: Global) -> Result<MemoryLink, NoMemory> {
+        let input = joined(alloc, self.asked, self.times)?;
+        let most = (self.most as usize).max(1);
+        let fail_reads = vec![in alloc; self.fail_read]?;
+        let fail_writes = vec![in alloc; self.fail_write]?;
+        MemoryLink::new(alloc, input, most, 1_000_000, fail_reads, fail_writes)
+    }
+
+    /// The office, for one desk.
+    fn office(self, alloc: Global) -> Result<Solo<FailingKeeper>, NoMemory> {
+        let fail_commits = vec![in alloc; self.fail_commit]?;
+        let mut keeper = FailingKeeper::new(alloc, Vec::new(alloc), fail_commits);
+        let mut fleet = Vec::new(alloc);
+        fleet.push(read_aircraft(alloc, DAIAB.as_bytes()).map_err(|_| NoMemory)?)?;
+        match Office::start(alloc, fleet, u64::from(self.capacity), &mut keeper) {
+            Ok(office) => Ok(Solo::new(office, keeper)),
+            Err(_) => Err(NoMemory),
+        }
+    }
+}
+
+/// The bytes of these texts, one after another, so many times over.
+fn joined(alloc: Global, texts: &[&str], times: u32) -> Result<Vec<u8>, NoMemory> {
     let mut bytes = Vec::new(alloc);
-    for text in texts {
-        bytes.extend_from_slice(text.as_bytes())?;
+    for _ in 0..times {
+        for text in texts {
+            bytes.extend_from_slice(text.as_bytes())?;
+        }
     }
     Ok(bytes)
 }
 
-/// An office with this keeper, which has room for so many entries, for one desk.
-fn office<K: Keeper + Drop>(alloc: Global, keeper: K, capacity: u32) -> Result<Solo<K>, NoMemory> {
-    let mut keeper = keeper;
-    let mut fleet = Vec::new(alloc);
-    fleet.push(read_aircraft(alloc, DAIAB.as_bytes()).map_err(|_| NoMemory)?)?;
-    match Office::start(alloc, fleet, u64::from(capacity), &mut keeper) {
-        Ok(office) => Ok(Solo::new(office, keeper)),
-        Err(_) => Err(NoMemory),
-    }
-}
-
-/// What is written to a link, and how its connection ends.
-fn served<K: Keeper + Drop>(
-    rt: &HostRuntime,
-    keeper: K,
-    capacity: u32,
-    link: MemoryLink,
-) -> Result<(ConnEnd, Vec<u8>), NoMemory> {
+/// How the connection of a case ends, and what is written to it.
+fn served(rt: &HostRuntime, case: Case) -> Result<(ConnEnd, Vec<u8>), NoMemory> {
     let alloc = rt.alloc();
-    let mut link = link;
+    let mut link = case.link(alloc)?;
     let mut tools = Tools::new(alloc)?;
-    let mut solo = office(alloc, keeper, capacity)?;
+    let mut solo = case.office(alloc)?;
     let end = serve_connection(rt, alloc, &mut tools, &mut solo, &mut link, &Direct);
     Ok((end, link.written().to_vec(alloc)?))
 }
 
-/// A link with this input, of which a read gives at most so many bytes.
-fn link(alloc: Global, texts: &[&str], most: u32) -> Result<MemoryLink, NoMemory> {
-    let input = joined(alloc, texts)?;
-    let most = (most as usize).max(1);
-    MemoryLink::new(
-        alloc,
-        input,
-        most,
-        1_000_000,
-        Vec::new(alloc),
-        Vec::new(alloc),
-    )
+/// Fails where the connection of a case ends otherwise, or where something else is written to it than these texts.
+fn check(rt: &HostRuntime, case: Case, end: ConnEnd, due: &[&str]) -> Result<(), Fail> {
+    let (ended, written) = served(rt, case)?;
+    if ended == end && written == joined(rt.alloc(), due, 1)? {
+        return Ok(());
+    }
+    let text = String::from_utf8(written)?;
+    Err(Fail::new(format_args!("{ended:?} after {text}")))
 }
 
 #[test]
 fn a_day_is_answered_however_its_bytes_come(rt: HostRuntime) -> Result<(), Fail> {
-    let alloc = rt.alloc();
-    let day = [MORNING, PLAN, REFUSED, ODD, AFTERNOON];
-    let answers = [
+    let due = [
         MORNING_ANSWERS,
         PLAN_ANSWER,
         REFUSED_ANSWERS,
         ODD_ANSWERS,
         AFTERNOON_ANSWERS,
     ];
-    let due = joined(alloc, &answers)?;
     for most in [1, 100, 100_000] {
-        let link = link(alloc, &day, most)?;
-        let (end, written) = served(&rt, MemoryKeeper::new(alloc), 2_000, link)?;
-        assert_eq!(rt; end, ConnEnd::Ended);
-        assert_eq!(rt; written.as_slice(), due.as_slice());
+        let day = Case {
+            most,
+            ..Case::of(&[MORNING, PLAN, REFUSED, ODD, AFTERNOON])
+        };
+        check(&rt, day, ConnEnd::Ended, &due)?;
     }
     Ok(())
 }
 
-/// A link with the day up to the plan, which fails at one read, or at one write.
-fn failing_link(
-    alloc: Global,
-    fail_reads: Vec<u64>,
-    fail_writes: Vec<u64>,
-) -> Result<MemoryLink, NoMemory> {
-    let input = joined(alloc, &[MORNING, PLAN])?;
-    MemoryLink::new(alloc, input, 100, 1_000_000, fail_reads, fail_writes)
+/// How long the first part is of the answers up to the plan that is written in a case of them. Fails where the connection ends
+/// otherwise.
+fn length_served(rt: &HostRuntime, case: Case, end: ConnEnd) -> Result<usize, Fail> {
+    let (ended, written) = served(rt, case)?;
+    let due = joined(rt.alloc(), &[MORNING_ANSWERS, PLAN_ANSWER], 1)?;
+    if ended == end && due.starts_with(&written) {
+        return Ok(written.len());
+    }
+    Err(Fail::new(format_args!("{ended:?}")))
 }
 
 #[test]
 fn a_failed_read_leaves_the_answers_to_whole_requests(rt: HostRuntime) -> Result<(), Fail> {
-    let alloc = rt.alloc();
-    let due = joined(alloc, &[MORNING_ANSWERS, PLAN_ANSWER])?;
-    for place in 1..10 {
-        let link = failing_link(alloc, vec![in alloc; place]?, Vec::new(alloc))?;
-        let (end, written) = served(&rt, MemoryKeeper::new(alloc), 2_000, link)?;
-        assert_eq!(rt; end, ConnEnd::ReadFault);
-        assert!(rt; due.starts_with(&written));
+    for fail_read in 1..10 {
+        let case = Case {
+            fail_read,
+            ..Case::of(&[MORNING, PLAN])
+        };
+        length_served(&rt, case, ConnEnd::ReadFault)?;
     }
     Ok(())
 }
 
 #[test]
 fn a_failed_write_leaves_a_first_part_of_the_answers(rt: HostRuntime) -> Result<(), Fail> {
-    let alloc = rt.alloc();
-    let due = joined(alloc, &[MORNING_ANSWERS, PLAN_ANSWER])?;
-    for place in 1..9 {
-        let link = failing_link(alloc, Vec::new(alloc), vec![in alloc; place]?)?;
-        let (end, written) = served(&rt, MemoryKeeper::new(alloc), 2_000, link)?;
-        assert_eq!(rt; end, ConnEnd::WriteFault);
-        assert!(rt; due.starts_with(&written));
-        assert!(rt; written.len() < due.len());
+    let whole = length_served(&rt, Case::of(&[MORNING, PLAN]), ConnEnd::Ended)?;
+    for fail_write in 1..9 {
+        let case = Case {
+            fail_write,
+            ..Case::of(&[MORNING, PLAN])
+        };
+        assert!(rt; length_served(&rt, case, ConnEnd::WriteFault)? < whole);
     }
     Ok(())
 }
 
 #[test]
 fn a_failed_commit_is_answered_so(rt: HostRuntime) -> Result<(), Fail> {
-    let alloc = rt.alloc();
-    let keeper = FailingKeeper::new(alloc, Vec::new(alloc), vec![in alloc; 3]?);
-    let link = link(alloc, &[AGAIN], 100)?;
-    let (end, written) = served(&rt, keeper, 2_000, link)?;
-    assert_eq!(rt; end, ConnEnd::Ended);
-    assert_eq!(rt; written.as_slice(), AGAIN_ANSWERS.as_bytes());
-    Ok(())
+    let case = Case {
+        fail_commit: 3,
+        ..Case::of(&[AGAIN])
+    };
+    check(&rt, case, ConnEnd::Ended, &[AGAIN_ANSWERS])
 }
 
 #[test]
 fn an_office_without_room_says_so(rt: HostRuntime) -> Result<(), Fail> {
-    let alloc = rt.alloc();
-    let asked = [MORNING, PLAN, ROW, REFUSED];
-    let answers = [MORNING_ANSWERS, FULL_ANSWER, FULL_ANSWER, REFUSED_ANSWERS];
-    let due = joined(alloc, &answers)?;
-    let link = link(alloc, &asked, 100)?;
-    let (end, written) = served(&rt, MemoryKeeper::new(alloc), 8, link)?;
-    assert_eq!(rt; end, ConnEnd::Ended);
-    assert_eq!(rt; written.as_slice(), due.as_slice());
-    Ok(())
+    let case = Case {
+        capacity: 8,
+        ..Case::of(&[MORNING, PLAN, ROW, REFUSED])
+    };
+    let due = [MORNING_ANSWERS, FULL_ANSWER, FULL_ANSWER, REFUSED_ANSWERS];
+    check(&rt, case, ConnEnd::Ended, &due)
 }
 
 #[test]
 fn a_connection_closes_after_a_refusal(rt: HostRuntime) -> Result<(), Fail> {
-    let alloc = rt.alloc();
-    let link = link(alloc, &["GET /fli"], 100)?;
-    let (_, written) = served(&rt, MemoryKeeper::new(alloc), 8, link)?;
-    assert_eq!(rt; written.as_slice(), HEAD_ANSWER.as_bytes());
-    Ok(())
+    let end = ConnEnd::Refused(Refusal::BadHead);
+    check(&rt, Case::of(&["GET /fli"]), end, &[HEAD_ANSWER])
 }
 
 #[test]
 fn a_connection_closes_after_its_last_request(rt: HostRuntime) -> Result<(), Fail> {
-    let alloc = rt.alloc();
-    let link = link(alloc, &[LAST], 100)?;
-    let (end, written) = served(&rt, MemoryKeeper::new(alloc), 8, link)?;
-    assert_eq!(rt; end, ConnEnd::Ended);
-    assert_eq!(rt; written.as_slice(), LAST_ANSWER.as_bytes());
-    Ok(())
+    check(&rt, Case::of(&[LAST]), ConnEnd::Ended, &[LAST_ANSWER])
 }
 
 #[test]
 fn a_connection_has_a_thousand_requests(rt: HostRuntime) -> Result<(), Fail> {
-    let alloc = rt.alloc();
-    let (mut input, mut due) = (Vec::new(alloc), Vec::new(alloc));
-    for _ in 0..1_001 {
-        input.extend_from_slice(NO_ROUTE.as_bytes())?;
-    }
-    for _ in 0..999 {
-        due.extend_from_slice(NO_ROUTE_ANSWER.as_bytes())?;
-    }
+    let case = Case {
+        times: 1_001,
+        ..Case::of(&[NO_ROUTE])
+    };
+    let (end, written) = served(&rt, case)?;
+    let mut due = joined(rt.alloc(), &[NO_ROUTE_ANSWER], 999)?;
     due.extend_from_slice(LAST_ANSWER.as_bytes())?;
-    let link = MemoryLink::new(
-        alloc,
-        input,
-        100,
-        1_000_000,
-        Vec::new(alloc),
-        Vec::new(alloc),
-    )?;
-    let (end, written) = served(&rt, MemoryKeeper::new(alloc), 8, link)?;
     assert_eq!(rt; end, ConnEnd::Served);
-    assert_eq!(rt; written.as_slice(), due.as_slice());
+    assert!(rt; written == due);
     Ok(())
 }

@@ -1,5 +1,7 @@
 // Prices of a task with a limit of each kind, against a plain program that follows the definitions.
+use crate::pass;
 use crate::plain_prices::{mass_at, plain_cheap, plain_value};
+use case_rows::Subject;
 use choice_prices::{PriceFault, ReadyPrices, is_clique, price_fault, wrong_clique};
 use hold_limits::Task;
 use hold_reach::Span;
@@ -234,7 +236,7 @@ fn a_clique_excludes_each_pair(rt: HostRuntime) -> Result<(), Fail> {
     Ok(())
 }
 
-// A list of prices in a certificate with two cliques.
+// The fault of a list of prices in a certificate with two cliques.
 fn fault_of(alloc: Global, line: &str) -> Result<Option<PriceFault>, Fail> {
     let task = read_task(alloc, TASK)?;
     let text = format!(in alloc; "CERTIFICATE 3\nnone\n{line}\nany\nEND\n")?;
@@ -243,21 +245,23 @@ fn fault_of(alloc: Global, line: &str) -> Result<Option<PriceFault>, Fail> {
     Ok(price_fault(&task, 2, list))
 }
 
-#[test]
-fn a_price_is_of_something_and_bounded(rt: HostRuntime) -> Result<(), Fail> {
-    for (line, fault) in [
-        ("low 11 10000000000000 43 0 ; 5 0 ; 1 0", None),
-        (
-            "low 11 1 12 10000000000001 ; 6 0 ; 2 0",
-            Some(PriceFault::Position(1)),
-        ),
-        ("high ; 5 1 6 1 7 1 ; 2 0", Some(PriceFault::Limit(1))),
-        ("high ; 0 10000000000001 ;", Some(PriceFault::Limit(0))),
-        ("low ; ; 0 1 1 1 2 1", Some(PriceFault::Clique(2))),
-    ] {
-        assert_eq!(rt; fault_of(rt.alloc(), line)?, fault, "{line}");
+/// The fault of the prices of a case.
+struct Faults;
+
+impl Subject for Faults {
+    fn said(&self, alloc: Global, case: &str) -> Result<String, Fail> {
+        Ok(format!(in alloc; "{:?}", fault_of(alloc, case)?)?)
     }
-    Ok(())
+}
+
+#[test]
+fn a_price_is_of_something_and_bounded(rt: HostRuntime) {
+    let rows = "None|low 11 10000000000000 43 0 ; 5 0 ; 1 0
+Some(Position(1))|low 11 1 12 10000000000001 ; 6 0 ; 2 0
+Some(Limit(1))|high ; 5 1 6 1 7 1 ; 2 0
+Some(Limit(0))|high ; 0 10000000000001 ;
+Some(Clique(2))|low ; ; 0 1 1 1 2 1";
+    pass(&rt, rt.alloc(), &Faults, rows);
 }
 
 #[test]

@@ -1,5 +1,6 @@
 // A certificate, and edits of it.
-use crate::tables::{field_at, number_at};
+use crate::pass;
+use case_rows::{Subject, field, with_line};
 use problem_text::read_task;
 use std::alloc::Global;
 use std::test::Fail;
@@ -19,7 +20,7 @@ ideal 50.00000 50.00000
 END
 ";
 
-const CERTIFICATE: &[u8] = b"CERTIFICATE 3
+const CERTIFICATE: &str = "CERTIFICATE 3
 best 12 41
 clique 11 12
 clique 41 42
@@ -36,53 +37,46 @@ least 1 11
 END
 ";
 
-// The text of the certificate that the text spells.
-fn rewritten(alloc: Global, text: &[u8]) -> Result<Vec<u8>, Fail> {
-    let task = read_task(alloc, TASK)?;
-    let certificate = read_trees(alloc, &task, text)?;
-    Ok(write_trees(alloc, &task, &certificate)?)
-}
+/// The text of the certificate that a text spells.
+struct Rewritten;
 
-// Why the text is refused, if it is.
-fn fault_of(alloc: Global, text: &[u8]) -> Result<Option<TreeFault>, Fail> {
-    let task = read_task(alloc, TASK)?;
-    Ok(read_trees(alloc, &task, text).err())
-}
-
-// The certificate's text, with this line in place of the line with the number.
-fn edited(alloc: Global, number: usize, line: &[u8]) -> Result<Vec<u8>, Fail> {
-    let mut text = Vec::new(alloc);
-    for (at, old) in CERTIFICATE.split(|byte| *byte == b'\n').enumerate() {
-        if at > 0 {
-            text.push(b'\n')?;
-        }
-        text.extend_from_slice(if at + 1 == number { line } else { old })?;
+impl Subject for Rewritten {
+    fn said(&self, alloc: Global, case: &str) -> Result<String, Fail> {
+        let task = read_task(alloc, TASK)?;
+        let certificate = read_trees(alloc, &task, case.as_bytes())?;
+        Ok(String::from_utf8(write_trees(alloc, &task, &certificate)?)?)
     }
-    Ok(text)
 }
 
 #[test]
-fn what_was_written_is_read_back(rt: HostRuntime) -> Result<(), Fail> {
-    assert_eq!(rt; rewritten(rt.alloc(), CERTIFICATE)?.as_slice(), CERTIFICATE);
-    let short: [&[u8]; 3] = [
-        b"CERTIFICATE 3\nbest\nnearer\nEND\n",
-        b"CERTIFICATE 3\nnone\nany\nEND\n",
-        b"CERTIFICATE 3\nnone\nhigh ; 0 18446744073709551615 ;\nany\nleaf 0\nEND\n",
-    ];
-    for text in short {
-        assert_eq!(rt; rewritten(rt.alloc(), text)?.as_slice(), text);
-    }
-    let behind = rewritten(rt.alloc(), b"NONE\nCERTIFICATE 3\nnone\nany\nEND\n")?;
-    assert_eq!(rt;
-        behind.as_slice(),
-        b"CERTIFICATE 3\nnone\nany\nEND\n".as_slice()
-    );
-    Ok(())
+fn what_was_written_is_read_back(rt: HostRuntime) {
+    let rows =
+        "CERTIFICATE 3~best 12 41~clique 11 12~clique 41 42~low 12 40 41 10000000000000 ; 3 2 ; 1 7~high ; ;~nearer~narrow 0~split 1 41 42~leaf 0~residue~least 0 11~leaf 1~least 1 11~END~|CERTIFICATE 3~best 12 41~clique 11 12~clique 41 42~low 12 40 41 10000000000000 ; 3 2 ; 1 7~high ; ;~nearer~narrow 0~split 1 41 42~leaf 0~residue~least 0 11~leaf 1~least 1 11~END~
+CERTIFICATE 3~best~nearer~END~|CERTIFICATE 3~best~nearer~END~
+CERTIFICATE 3~none~any~END~|CERTIFICATE 3~none~any~END~
+CERTIFICATE 3~none~high ; 0 18446744073709551615 ;~any~leaf 0~END~|CERTIFICATE 3~none~high ; 0 18446744073709551615 ;~any~leaf 0~END~
+CERTIFICATE 3~none~any~END~|NONE~CERTIFICATE 3~none~any~END~";
+    pass(&rt, rt.alloc(), &Rewritten, rows);
 }
 
-/// Lines of the certificate, a row for each: how the certificate is refused, the line's number, and what stands in its place.
-/// A `~` stands for the end of a line.
-const WRONG_LINES: &[u8] = b"NoStart|1|CERTIFICATE 1
+/// How the certificate is refused with a line in place of that with a number. A case has the number and the line.
+struct Refused;
+
+impl Subject for Refused {
+    fn said(&self, alloc: Global, case: &str) -> Result<String, Fail> {
+        let number = field(case, 0)?.parse::<usize>()?;
+        let text = with_line(alloc, CERTIFICATE, number, field(case, 1)?)?;
+        let task = read_task(alloc, TASK)?;
+        match read_trees(alloc, &task, text.as_bytes()).err() {
+            Some(fault) => Ok(format!(in alloc; "{fault:?}")?),
+            None => Ok(String::from_str(alloc, "a certificate")?),
+        }
+    }
+}
+
+#[test]
+fn the_first_wrong_line_is_named(rt: HostRuntime) {
+    let rows = "NoStart|1|CERTIFICATE 1
 NoStart|1|CERTIFICATE 3 
 Line(2)|2|best 12 13
 Line(7)|2|none
@@ -108,43 +102,28 @@ Line(12)|12|least 0 13
 Line(13)|13|nearer
 Line(16)|15|END~
 Line(16)|16|END";
-
-// How the certificate with the line of a row is refused.
-fn refusal_of(alloc: Global, row: &[u8]) -> Result<String, Fail> {
-    let line = field_at(alloc, row, 2)?;
-    let text = edited(alloc, number_at(alloc, row, 1)?, line.as_bytes())?;
-    match fault_of(alloc, &text)? {
-        Some(fault) => Ok(format!(in alloc; "{fault:?}")?),
-        None => Ok(String::from_str(alloc, "a certificate")?),
-    }
+    pass(&rt, rt.alloc(), &Refused, rows);
 }
 
-// The first row that is refused in another way.
-fn first_other_refusal(alloc: Global) -> Result<Option<usize>, Fail> {
-    for (at, row) in WRONG_LINES.split(|byte| *byte == b'\n').enumerate() {
-        if refusal_of(alloc, row)? != field_at(alloc, row, 0)? {
-            return Ok(Some(at));
+/// The first length of the certificate that is not refused for want of its start or its end.
+fn first_other_length(alloc: Global) -> Result<Option<usize>, Fail> {
+    let task = read_task(alloc, TASK)?;
+    let text = CERTIFICATE.as_bytes();
+    for length in 0..text.len() {
+        let due = if length < 14 {
+            TreeFault::NoStart
+        } else {
+            TreeFault::NoEnd
+        };
+        if read_trees(alloc, &task, &text[..length]).err() != Some(due) {
+            return Ok(Some(length));
         }
     }
     Ok(None)
 }
 
 #[test]
-fn the_first_wrong_line_is_named(rt: HostRuntime) -> Result<(), Fail> {
-    assert_eq!(rt; first_other_refusal(rt.alloc())?, None);
-    Ok(())
-}
-
-#[test]
 fn a_text_that_stops_early_has_no_end(rt: HostRuntime) -> Result<(), Fail> {
-    for length in 0..CERTIFICATE.len() {
-        let fault = if length < 14 {
-            TreeFault::NoStart
-        } else {
-            TreeFault::NoEnd
-        };
-        let got = fault_of(rt.alloc(), &CERTIFICATE[..length])?;
-        assert!(rt; got == Some(fault), "of {length} bytes");
-    }
+    assert_eq!(rt; first_other_length(rt.alloc())?, None);
     Ok(())
 }

@@ -3,6 +3,15 @@
 #![tactic(auto)]
 
 #[cfg(test)]
+use case_rows::{Subject, check};
+#[cfg(test)]
+use std::alloc::Global;
+#[cfg(test)]
+use std::io::Eprint;
+#[cfg(test)]
+use std::process::{Abort, ExitCode, Termination};
+
+#[cfg(test)]
 mod links;
 #[cfg(test)]
 mod requests;
@@ -12,3 +21,10 @@ mod shelves;
 mod sinks;
 #[cfg(test)]
 mod sources;
+
+/// Fails a test where a row of a table is wrong, and prints the row.
+#[cfg(test)]
+fn pass<R: Abort + Eprint, S: Subject>(rt: &R, alloc: Global, subject: &S, rows: &str) {
+    let code = check(alloc, subject, rows).report(rt);
+    assert!(rt; code == ExitCode::SUCCESS);
+}
