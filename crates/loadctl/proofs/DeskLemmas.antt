@@ -20,15 +20,9 @@ use Rattle.desk_run.specs.declared.fault.DeskFault.{DeskFault}
 use Rattle.desk_run.specs.declared.fault.DeskFault.TheVariants.{Fleet, Unread, Keeper, BadTable, TooMany, NoMemory}
 use Rattle.desk_run.proofs.Causes.{refused-no_fleet, refused-reported, servable-fleet, servable-right, servable-few, unrefused-ends, read-failed, write-failed}
 use Rattle.plan_commands.specs.Arguments.{BeginsWithMinus, arguments_of}
-use Rattle.loadctl.specs.Desk.{most_aircraft, surroundings, fault_text, status_of_end, status_of_fault, IsStoreName, AskForDesk, AskForFile, EndsDesk, IsComplete, IsReported, IsUnopened, NoneFailed, Surroundings, Runs}
+use Rattle.loadctl.specs.Desk.{most_aircraft, surroundings, fault_text, status_of_end, status_of_fault, IsStoreName, AskForDesk, AskForFile, EndsDesk, IsComplete, IsReported, IsUnopened, NoneFailed, Surroundings}
 use Rattle.loadctl.specs.Desk.IsReported.{whole, cut, no_memory}
 use Rattle.loadctl.specs.Desk.EndsDesk.{served, unopened}
-
--- what is said of these words holds of the words that an answer gives, where it gives these
-pub said-of-given : {X E : Type 0} (answer : Result X E) (words : List (String Global)) (given : X → List (String Global)) (P : List (String Global) → Type 0)
-    → IfOk answer (λ x. words ≡ given x) → P words → IfOk answer (λ x. P (given x))
-said-of-given (Ok x) words given P is said = subst P is said
-said-of-given (Err e) words given P is said = tt
 
 -- the first two and the others
 pub two_and_more : {X : Type 0} (xs : List X) (a b d0 d1 : X) → 2 ≤ length xs → a ≡ get_or xs 0 d0 → b ≡ get_or xs 1 d1 → xs ≡ a ∷ b ∷ take (length xs - 2) (drop 2 xs)
@@ -164,10 +158,3 @@ desk-complete names before after opening history status (unopened fault is repor
   served = λ can none. inr (inr (unopened-ends names before after none fault status can is reported));
   refused = λ file refused none. refused-ends names before after none fault status file (is.refused file refused) is reported;
 }
-
--- the arguments of a run are all but the first
-pub runs-over : {A E : Type 0} (args : Result A E) (given : A → List (String Global)) (arguments : List (String Global)) (before after : Surroundings) (status : ℕ) (opening : List FlightState) (history : List Entry)
-    → IfOk args (λ all. arguments ≡ given all) → Runs (arguments_of arguments) before after status opening history
-    → IfOk args (λ all. Runs (arguments_of (given all)) before after status opening history)
-runs-over (Ok all) given arguments before after status opening history same run = subst (λ (given : List (String Global)). Runs (arguments_of given) before after status opening history) same run
-runs-over (Err e) given arguments before after status opening history same run = tt

@@ -1,2 +1,4 @@
 pub mod DeskLemmas
 pub mod ServeLemmas
+pub mod NeedLemmas
+pub mod ExecuteLemmas

@@ -1,2 +1,4 @@
 pub mod Desk
 pub mod Serve
+pub mod Needs
+pub mod Execute

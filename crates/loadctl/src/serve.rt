@@ -21,7 +21,7 @@ use std::sync::Wait;
 use std::thread::Threads;
 
 /// How many desks an office has at most.
-const MOST_DESKS: u32 = 8;
+const MOST_DESKS: u8 = 8;
 
 /// The number behind the last port.
 const PORTS_END: u32 = 65_536;
@@ -29,25 +29,34 @@ const PORTS_END: u32 = 65_536;
 /// What `serve N PORT STORE AIRCRAFT ..` asks for: how many desks, the first one's port, and the names of the aircraft's files.
 #[derive(Clone, Copy)]
 pub struct Served<'a> {
-    pub desks: u32,
-    pub port: u32,
+    pub desks: u8,
+    pub port: u16,
     pub names: &'a [String],
 }
 
-fn desks_from(argument: &str) -> Option<u32>
+fn desks_from(argument: &str) -> Option<u8>
     ensures some { IfSome result (λ n. (argument.now ≡ number_text n) × (1 ≤ n) × (n ≤ most_desks)) }
     ensures none { IfNone result ((n : ℕ) → 1 ≤ n → n ≤ most_desks → argument.now ≡ number_text n → ⊥) }
 {
-    read_number(argument.as_bytes()).filter(|desks| (1..=MOST_DESKS).contains(desks))
+    let number = read_number(argument.as_bytes())?;
+    if number == 0 || number > u32::from(MOST_DESKS) {
+        return None;
+    }
+    Some(number as u8)
 }
 
 /// The first of so many ports.
-fn port_from(argument: &str, desks: u32) -> Option<u32>
+fn port_from(argument: &str, desks: u8) -> Option<u16>
+    requires some_desks { 1 ≤ desks }
     requires few { desks ≤ most_desks }
     ensures some { IfSome result (λ n. (argument.now ≡ number_text n) × (1 ≤ n) × (n + desks ≤ ports_end)) }
     ensures none { IfNone result ((n : ℕ) → 1 ≤ n → n + desks ≤ ports_end → argument.now ≡ number_text n → ⊥) }
 {
-    read_number(argument.as_bytes()).filter(|port| (1..=PORTS_END - desks).contains(port))
+    let number = read_number(argument.as_bytes())?;
+    if number == 0 || number > PORTS_END - u32::from(desks) {
+        return None;
+    }
+    Some(number as u16)
 }
 
 /// Whether these are the first argument and the store of an office of several desks.
@@ -155,3 +164,6 @@ pub fn serve_office<
         history,
     }
 }
+
+#[cfg(test)]
+mod tests;

@@ -1,6 +1,6 @@
 //! The arguments of the program.
 
-ghost use Rattle.std.specs.Prelude.{◌≡◌, ◌≤◌, ◌<◌, ◌^◌, ◌↔◌, ◌∷◌, [], All, IsTrue, IfSome, IfNone, ℕ, string_bytes};
+ghost use Rattle.std.specs.Prelude.{◌≡◌, ◌≤◌, ◌<◌, ◌^◌, ◌↔◌, ◌∷◌, [], All, false, IsTrue, IfSome, IfNone, ℕ, string_bytes};
 ghost use Rattle.mass_units.specs.Spelling.{number_text};
 ghost use Rattle.plan_commands.specs.Arguments.{arguments_of, greatest_budget, greatest_looks, BeginsWithMinus, Job, AskFor, IsCommand, AreInvalid};
 ghost use Rattle.plan_commands.specs.Commands.{job_of};
@@ -143,4 +143,15 @@ pub fn command_of(arguments: &[String]) -> Option<Command<'_>>
         return None;
     }
     form_of(arguments)
+}
+
+/// Whether the arguments are a command about one task.
+pub fn are_command(arguments: &[String]) -> bool
+    ensures asked { IsTrue result → (job : Job) × IsCommand (arguments_of arguments.now) job }
+    ensures invalid { result ≡ false → AreInvalid (arguments_of arguments.now) }
+{
+    match command_of(arguments) {
+        Some(_) => true,
+        None => false,
+    }
 }

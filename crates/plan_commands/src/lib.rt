@@ -10,7 +10,7 @@ mod printing;
 mod reply_text;
 mod tree_jobs;
 
-pub use arguments::are_plain;
+pub use arguments::{are_command, are_plain};
 pub use ending::{Outcome, Stop};
 pub use first_words::arguments_from;
 pub use printing::{exit_status, print};

@@ -2,7 +2,7 @@ use Rattle.std.proofs.Common.{sym, ◌∙◌}
 use Rattle.std.proofs.lemmas.Bool.{false≢true}
 use Rattle.plan_commands.specs.Arguments.{arguments_of}
 use Rattle.loadctl.proofs.ServeLemmas.{kept-nowhere}
-use Rattle.loadctl.proofs.program.store_place.Goals as goal
+use Rattle.loadctl.proofs.words.store_place.Goals as goal
 
 pub returns-clause-none : goal.returns-clause-none
 returns-clause-none c file kept =

@@ -1,0 +1,12 @@
+//! Tests of the commands about one task, from their arguments to what is printed.
+//! They stand apart, since a crate with tests is proved twice.
+#![tactic(auto)]
+
+#[cfg(test)]
+mod outside;
+#[cfg(test)]
+mod plans;
+#[cfg(test)]
+mod runs;
+#[cfg(test)]
+mod trees;
