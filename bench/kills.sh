@@ -1,7 +1,8 @@
 #!/usr/bin/env bash
 # Kills the program at random moments while it takes changes of three flights into a store, and looks after each kill that
 # every edition that it had acknowledged is in the store. bench/kills.sh [PROGRAM [ROUNDS]] takes the program that was
-# proved and built, out/loadctl by default, and 200 rounds.
+# proved and built, out/loadctl by default, and 200 rounds. It ends with the number of rounds and of losses, and with
+# status 1 where an edition was lost.
 #
 # A round starts one program and kills that one, by its process id, at a moment within the time that a whole run takes. The
 # changes of a flight are sent in the order of their editions, so after a kill at most one edition is in the store whose
@@ -14,8 +15,8 @@ rounds=${2-200}
 aircraft=$top/examples/daiab.toml
 days=(11 12 13)
 flights=${#days[@]}
-# A connection has at most 1,000 requests.
-changes=$((999 / flights))
+# The changes of each flight in a round.
+changes=20
 
 fail() {
     echo "bench/kills.sh: $*" >&2
@@ -43,12 +44,14 @@ request() { printf '%s %s HTTP/1.1\r\nContent-Length: %d\r\n\r\n%s' "$1" "$2" "$
 trip_of() { echo $((1 + $1 % 9000)); }
 
 # One run of the program to its end.
-run() { "$program" desk "$store" "$aircraft" <"$work/input" >"$work/output" || fail "the program ended with $?."; }
+run() {
+    timeout 60 "$program" desk "$store" "$aircraft" <"$work/input" >"$work/output" || fail "the program ended with $?."
+}
 
 # The edition and the trip fuel of each flight, as a program that opens the store has them: a line for each flight.
+for day in "${days[@]}"; do request GET "/flights/XX210-$day" ''; done >"$work/rows_asked"
 kept() {
-    local day
-    for day in "${days[@]}"; do request GET "/flights/XX210-$day" ''; done >"$work/input"
+    cp "$work/rows_asked" "$work/input"
     run
     awk '/^edition /{ edition = $2 } /^fuel /{ trip = $4 } /^END/{ print edition, trip }' "$work/output"
 }
@@ -66,7 +69,7 @@ ask_changes() {
         for ((f = 0; f < flights; f++)); do
             edition=$((editions[f] + n))
             request PUT "/flights/XX210-${days[f]}/fuel/$edition" \
-                "{\"taxi\":200,\"takeoff\":9000,\"trip\":$(trip_of $((edition + 1)))}"
+                "{\"taxi\":200,\"takeoff\":9000,\"trip\":$((1 + (edition + 1) % 9000))}"
         done
     done >"$work/input"
 }
@@ -83,37 +86,56 @@ for ((f = 0; f < flights; f++)); do acknowledged[f]=$((1 + changes)); done
 answers=0
 unanswered=0
 killed=0
+losses=0
 
-for ((round = 0; ; round++)); do
-    # What the last round acknowledged is there, and at most one edition more.
+# loses EDITIONS WHAT: so many acknowledged editions are not there.
+loses() {
+    losses=$((losses + $1))
+    echo "bench/kills.sh: round $round: $2" >&2
+}
+
+# What the last round acknowledged is there, and at most one edition more.
+look() {
+    local f edition trip more=0 lines
     editions=()
-    more=0
-    mapfile -t lines < <(kept)
+    kept >"$work/kept"
+    mapfile -t lines <"$work/kept"
     [ "${#lines[@]}" = "$flights" ] || fail "round $round: ${#lines[@]} flights are in the store."
     for ((f = 0; f < flights; f++)); do
         read -r edition trip <<<"${lines[f]}"
-        [ "$edition" -ge "${acknowledged[f]}" ] ||
-            fail "round $round: edition ${acknowledged[f]} of flight $((f + 1)) was acknowledged, and $edition is in the store."
-        more=$((more + edition - acknowledged[f]))
+        if [ "$edition" -lt "${acknowledged[f]}" ]; then
+            loses $((acknowledged[f] - edition)) \
+                "edition ${acknowledged[f]} of flight $((f + 1)) was acknowledged, and $edition is in the store."
+        else
+            more=$((more + edition - acknowledged[f]))
+        fi
         [ "$edition" = 1 ] || [ "$trip" = "$(trip_of "$edition")" ] ||
-            fail "round $round: edition $edition of flight $((f + 1)) has the trip fuel $trip."
+            loses 1 "edition $edition of flight $((f + 1)) has the trip fuel $trip."
         editions[f]=$edition
     done
     [ "$more" -le 1 ] || fail "round $round: $more editions are in the store that no answer names."
     unanswered=$((unanswered + more))
-    [ "$round" -lt "$rounds" ] || break
+}
 
-    ask_changes
+# Starts the program on the changes, and kills it at a random moment.
+kill_one() {
+    local moment ended=0
     "$program" desk "$store" "$aircraft" <"$work/input" >"$work/output" &
     running=$!
     moment=$((RANDOM % whole))
     sleep "$((moment / 1000)).$(printf '%03d' $((moment % 1000)))"
     kill -KILL "$running" 2>/dev/null || true
-    ended=0
     wait "$running" 2>/dev/null || ended=$?
     running=
     [ "$ended" != 137 ] || killed=$((killed + 1))
+}
 
+round=0
+look
+while [ "$round" -lt "$rounds" ]; do
+    round=$((round + 1))
+    ask_changes
+    kill_one
     ! grep -a -o 'HTTP/1.1 [0-9][0-9][0-9]' "$work/output" | grep -q -v ' 200$' ||
         fail "round $round: a change was refused."
     answered=$(grep -a -o '{"edition":[0-9]*}' "$work/output" | wc -l)
@@ -122,11 +144,11 @@ for ((round = 0; ; round++)); do
     for ((f = 0; f < flights; f++)); do
         acknowledged[f]=$((editions[f] + (answered + flights - 1 - f) / flights))
     done
+    look
 done
 
-[ "$answers" -gt 0 ] || fail "no change was answered before its program was killed."
-echo "$rounds runs, $killed of them killed before their end: $answers editions were acknowledged, and each was in the store afterwards; $unanswered were in the store whose answer had not come."
 if command -v sqlite3 >/dev/null; then
     [ "$(sqlite3 "$store" 'pragma integrity_check')" = ok ] || fail "sqlite3 finds the store damaged."
-    sqlite3 "$store" 'select key, length(bytes) from flight'
 fi
+echo "$rounds rounds, $killed of them killed before their end: $answers editions were acknowledged, $losses of them were lost; $unanswered were kept whose answer had not come."
+[ "$losses" = 0 ]

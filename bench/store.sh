@@ -1,11 +1,9 @@
 #!/usr/bin/env bash
-# Commits of changes into a store, for each second, beside those of sqlite3 on the same upserts with the same settings:
-# a log beside the file, synced at each commit. bench/store.sh [PROGRAM] takes the program that was proved and built,
-# out/loadctl by default.
-#
-# The program opens its file for each change and closes it behind it, and so does the first run of sqlite3; the second one
-# leaves it open. Of each the median of five runs is taken, its start included.
-set -eu
+# The time that changes of a flight take in a store, beside the time of sqlite3 for the same upserts with the same settings:
+# one open connection, a transaction for each, a log beside the file that is synced at each commit. bench/store.sh [PROGRAM]
+# takes the program that was proved and built, out/loadctl by default. The two take turns, and of each the median of five runs
+# is taken, from its start to its end. The time of a run that only opens the store and shows a flight stands beside it.
+set -euo pipefail
 
 top=$(dirname "$(dirname "$(readlink -f "$0")")")
 program=$(readlink -f "${1-$top/out/loadctl}")
@@ -27,18 +25,19 @@ trap 'rm -rf "$work"' EXIT
 request() { printf '%s %s HTTP/1.1\r\nContent-Length: %d\r\n\r\n%s' "$1" "$2" "${#3}" "$3"; }
 
 # One run of the program on the store.
-run() { "$program" desk "$work/flights.db" "$aircraft" <"$work/$1" >"$work/output" || fail "the program ended with $?."; }
+run() {
+    timeout 60 "$program" desk "$work/flights.db" "$aircraft" <"$work/$1" >"$work/output" || fail "the program ended with $?."
+}
 
-# A store of so many flights. A connection has at most 1,000 requests.
+# A store of so many flights.
 open_flights() {
-    local first last n
-    for ((first = 0; first < $1; first += 900)); do
-        last=$((first + 900 < $1 ? first + 900 : $1))
-        for ((n = first; n < last; n++)); do
-            request POST /flights "{\"flight\":\"XX$((1000 + n))\",\"day\":\"12\",\"registration\":\"DAIAB\",\"origin\":\"FRA\",\"destination\":\"ARN\"}"
-        done >"$work/opened"
-        run opened
-    done
+    local n
+    for ((n = 0; n < $1; n++)); do
+        request POST /flights "{\"flight\":\"XX$((1000 + n))\",\"day\":\"12\",\"registration\":\"DAIAB\",\"origin\":\"FRA\",\"destination\":\"ARN\"}"
+    done >"$work/opened"
+    run opened
+    sqlite3 "$work/flights.db" 'PRAGMA wal_checkpoint(truncate)' >/dev/null
+    cp "$work/flights.db" "$work/before.db"
 }
 
 # The changes of the first flight, from its first edition.
@@ -49,50 +48,51 @@ ask_changes() {
     done >"$work/asked"
 }
 
-# The same upserts for sqlite3: the last row of the flight, again and again. With `each` the file is opened for each.
+# The same upserts for sqlite3: the last row of the flight, with other bytes at its end each time, since sqlite3 writes no page
+# that stays as it is.
 write_upserts() {
-    local bytes n
+    local bytes n end
     bytes=$(sqlite3 "$work/flights.db" "SELECT hex(bytes) FROM flight WHERE key = 'XX1000-12'")
+    echo 'PRAGMA journal_mode = wal; PRAGMA synchronous = full;'
+    echo 'CREATE TABLE IF NOT EXISTS flight (key TEXT PRIMARY KEY NOT NULL, bytes BLOB NOT NULL) STRICT;'
     for ((n = 1; n <= changes; n++)); do
-        if [ "$1" = each ] || [ "$n" = 1 ]; then
-            echo ".open $work/copy.db"
-            echo 'PRAGMA journal_mode = wal; PRAGMA synchronous = full;'
-            echo 'CREATE TABLE IF NOT EXISTS flight (key TEXT PRIMARY KEY NOT NULL, bytes BLOB NOT NULL) STRICT;'
-        fi
-        echo "INSERT INTO flight (key, bytes) VALUES ('XX1000-12', X'$bytes') ON CONFLICT (key) DO UPDATE SET bytes = excluded.bytes;"
-    done >"$work/upserts-$1"
+        printf -v end '%06d' "$n"
+        echo "INSERT INTO flight (key, bytes) VALUES ('XX1000-12', X'${bytes%??????}$end') ON CONFLICT (key) DO UPDATE SET bytes = excluded.bytes;"
+    done
 }
 
-# The median time of five runs of a command, in nanoseconds. Before each, the store is as it was opened.
+# The time of a command, in nanoseconds. Before it, the store is as it was opened.
 nanoseconds() {
     local begun
-    for _ in 1 2 3 4 5; do
-        cp "$work/before.db" "$work/flights.db"
-        cp "$work/before.db" "$work/copy.db"
-        rm -f "$work"/*.db-wal "$work"/*.db-shm
-        sync
-        begun=$(date +%s%N)
-        "$@"
-        echo $(($(date +%s%N) - begun))
-    done | sort -n | sed -n 3p
+    rm -f "$work"/*.db-wal "$work"/*.db-shm
+    cp "$work/before.db" "$work/flights.db"
+    cp "$work/before.db" "$work/copy.db"
+    sync "$work/flights.db" "$work/copy.db" "$work"
+    begun=$(date +%s%N)
+    "$@"
+    echo $(($(date +%s%N) - begun))
 }
 
-upserts() { sqlite3 <"$work/upserts-$1" >"$work/output"; }
+upserts() { sqlite3 "$work/copy.db" <"$work/upserts" >"$work/output"; }
 
-printf '%8s %24s %24s %8s %24s\n' flights loadctl 'sqlite3, opened for each' times 'sqlite3, left open'
+median() { sort -n "$work/$1" | sed -n 3p; }
+
+request GET /flights/XX1000-12 '' >"$work/shown"
+printf '%8s %8s %10s %22s %22s %6s\n' flights changes opening loadctl sqlite3 ratio
 for flights in 1 100 500; do
-    rm -f "$work"/*.db "$work"/*.db-wal "$work"/*.db-shm
+    rm -f "$work"/*.db "$work"/*.db-wal "$work"/*.db-shm "$work"/*.times
     open_flights "$flights"
-    sqlite3 "$work/flights.db" 'PRAGMA wal_checkpoint(truncate)' >/dev/null
-    cp "$work/flights.db" "$work/before.db"
     ask_changes
-    ours=$(nanoseconds run asked)
+    run asked
     [ "$(grep -a -o '{"edition":[0-9]*}' "$work/output" | wc -l)" = "$changes" ] || fail "a change was refused."
-    write_upserts each
-    write_upserts once
-    each=$(nanoseconds upserts each)
-    once=$(nanoseconds upserts once)
-    awk -v f="$flights" -v c="$changes" -v o="$ours" -v e="$each" -v n="$once" 'BEGIN {
-        printf "%8d %12.0f for a second %12.0f for a second %8.2f %12.0f for a second\n", f, c / (o / 1e9), c / (e / 1e9), o / e, c / (n / 1e9)
+    write_upserts >"$work/upserts"
+    for _ in 1 2 3 4 5; do
+        nanoseconds run shown >>"$work/opening.times"
+        nanoseconds run asked >>"$work/loadctl.times"
+        nanoseconds upserts >>"$work/sqlite3.times"
+    done
+    awk -v f="$flights" -v c="$changes" -v b="$(median opening.times)" -v o="$(median loadctl.times)" -v t="$(median sqlite3.times)" 'BEGIN {
+        printf "%8d %8d %8.3f s %7.3f s, %5.0f a second %7.3f s, %5.0f a second %6.2f\n",
+            f, c, b / 1e9, o / 1e9, c / (o / 1e9), t / 1e9, c / (t / 1e9), o / t
     }'
 done

@@ -14,24 +14,23 @@ mod serve;
 mod system;
 mod words;
 
-use execute::execute;
 use load_io::{FileShelf, StdSink, StdSource};
 use placer::Direct;
 use std::env;
 use std::process::ExitCode;
+use system::execute_on;
 
 fn main(rt: HostRuntime) -> ExitCode {
     let mut shelf = FileShelf::new(rt);
     let mut input = StdSource::new(rt);
     let mut out = StdSink::new(rt);
-    let status = execute(
+    let status = execute_on(
         &rt,
         rt.alloc(),
         env::args(&rt),
         &mut shelf,
         &mut input,
         &mut out,
-        &rt,
         &Direct,
     );
     ExitCode::from(status)

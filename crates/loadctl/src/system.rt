@@ -2,12 +2,19 @@
 
 ghost use Rattle.std.specs.Prelude.{◌≡◌, ◌≢◌, ⊤, None, MatchOption, option_map, unwrap_or};
 
+use crate::execute::execute;
 use crate::objects::Objects;
 use desk_base::NoMemory;
 use keeper::{KeepFault, Keeper, KeptRow, MemoryKeeper};
-use load_io::TcpDoor;
-use sqlite_keeper::SqliteKeeper;
+use load_io::{Shelf, Sink, Source, TcpDoor};
+use placer::Placing;
+use sqlite_keeper::{SqliteKeeper, StoreRuntime};
 use std::alloc::Global;
+use std::env::Args;
+use std::io;
+use std::net::{Net, TcpListener, TcpStream};
+use std::sync::Wait;
+use std::thread::Threads;
 
 /// Keeps rows in a file, or in memory where there is none. Its tables are hidden.
 #[derive(Drop)]
@@ -36,10 +43,21 @@ impl<F: Keeper + Drop> Keeper for RowStore<F> {
     }
 }
 
-impl Objects for HostRuntime {
-    type Keeper = RowStore<SqliteKeeper<HostRuntime>>;
+/// The objects of a runtime.
+#[derive(Drop)]
+pub struct System<Rt: Drop> {
+    pub rt: Rt,
+}
 
-    type Door = TcpDoor<HostRuntime>;
+impl<
+    Rt: StoreRuntime + Net<Listener = TcpListener, Stream = TcpStream> + Copy + Send + Drop,
+> Objects for System<Rt>
+where
+    Rt::Rows: Send,
+{
+    type Keeper = RowStore<SqliteKeeper<Rt>>;
+
+    type Door = TcpDoor<Rt>;
 
     // There is a file exactly where one is named. Which it is, and at which port a door stands, is hidden.
     ghost keeps = { λ store name. MatchOption name (store.file ≡ None) (λ _. store.file ≢ None) };
@@ -50,21 +68,51 @@ impl Objects for HostRuntime {
         &self,
         alloc: Global,
         name: &str,
-    ) -> Result<RowStore<SqliteKeeper<HostRuntime>>, NoMemory> {
+    ) -> Result<RowStore<SqliteKeeper<Rt>>, NoMemory> {
         Ok(RowStore {
-            file: Some(SqliteKeeper::new(*self, String::from_str(alloc, name)?)),
+            file: Some(SqliteKeeper::new(self.rt, String::from_str(alloc, name)?)),
             memory: MemoryKeeper::new(alloc),
         })
     }
 
-    fn keeper_in_memory(&self, alloc: Global) -> RowStore<SqliteKeeper<HostRuntime>> {
+    fn keeper_in_memory(&self, alloc: Global) -> RowStore<SqliteKeeper<Rt>> {
         RowStore {
             file: None,
             memory: MemoryKeeper::new(alloc),
         }
     }
 
-    fn door(&self, _alloc: Global, port: u16) -> Result<TcpDoor<HostRuntime>, NoMemory> {
-        Ok(TcpDoor::new(*self, port))
+    fn door(&self, _alloc: Global, port: u16) -> Result<TcpDoor<Rt>, NoMemory> {
+        Ok(TcpDoor::new(self.rt, port))
     }
+}
+
+/// Runs on the arguments as `execute` does, over the objects of this runtime.
+pub fn execute_on<
+    Rt: Threads
+        + Wait
+        + Sync
+        + StoreRuntime
+        + Net<Listener = TcpListener, Stream = TcpStream>
+        + Copy
+        + Send
+        + Drop,
+    F: Shelf,
+    S: Source,
+    O: Sink,
+    P: Placing + Sync,
+>(
+    rt: &Rt,
+    alloc: Global,
+    args: io::Result<Args>,
+    shelf: &mut F,
+    input: &mut S,
+    out: &mut O,
+    placing: &P,
+) -> u8
+where
+    Rt::Rows: Send,
+{
+    let system = System { rt: *rt };
+    execute(rt, alloc, args, shelf, input, out, &system, placing)
 }

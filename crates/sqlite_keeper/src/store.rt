@@ -5,18 +5,17 @@ ghost use Rattle.desk_base.specs.Faults.{Rose};
 ghost use Rattle.keeper.specs.Tables.{AreInKeyOrder};
 
 use crate::fault::fault_of;
-use crate::rows::{commit_row, load_rows, prepare_rows};
-use crate::runtime::StoreRuntime;
+use crate::runtime::{OpenRows, StoreRuntime};
 use keeper::{KeepFault, Keeper, KeptRow};
-use sqlite::{Connection, File, FileStore};
 use std::alloc::Global;
 
-/// Keeps rows in the file of a path, which it opens for each call and closes after it. Its tables are hidden. It counts
-/// each failure other than being out of memory, up to the last value of the counter.
-#[derive(Drop)]
+/// Keeps rows in the file of a path. The first call opens the file, which stays open until a call fails: the next one then
+/// opens it anew. Its tables are hidden. It counts each failure other than being out of memory, up to the last value of the
+/// counter.
 pub struct SqliteKeeper<Rt: StoreRuntime + Drop> {
     rt: Rt,
     path: String,
+    rows: Option<Rt::Rows>,
     faults: u64,
 }
 
@@ -29,6 +28,7 @@ impl<Rt: StoreRuntime + Drop> SqliteKeeper<Rt> {
         SqliteKeeper {
             rt,
             path,
+            rows: None,
             faults: 0,
         }
     }
@@ -55,54 +55,68 @@ impl<Rt: StoreRuntime + Drop> Keeper for SqliteKeeper<Rt> {
     ghost faults = { λ keeper. keeper.faults };
 
     fn load(&mut self, alloc: Global) -> Result<Vec<KeptRow>, KeepFault> {
-        let loaded = load_from(&self.rt, alloc, self.path.as_str());
+        let loaded = load_from(&mut self.rows, &self.rt, alloc, self.path.as_str());
         self.counted(loaded)
     }
 
     fn commit(&mut self, alloc: Global, row: &KeptRow) -> Result<(), KeepFault> {
-        let committed = commit_to(&self.rt, alloc, self.path.as_str(), row);
+        let committed = commit_to(&mut self.rows, &self.rt, alloc, self.path.as_str(), row);
         self.counted(committed)
     }
 }
 
-/// The database in the file, with the table of rows.
-fn open<Rt: StoreRuntime>(
+impl<Rt: StoreRuntime + Drop> Drop for SqliteKeeper<Rt> {
+    fn drop(self) {
+        let SqliteKeeper {
+            rt: _rt,
+            path: _path,
+            rows,
+            faults: _faults,
+        } = self;
+        if let Some(rows) = rows {
+            rows.close();
+        }
+    }
+}
+
+/// The rows that are open, or those of the file, with their table.
+fn taken<Rt: StoreRuntime>(
+    open: &mut Option<Rt::Rows>,
     rt: &Rt,
     alloc: Global,
     path: &str,
-) -> Result<Connection<FileStore<File>>, KeepFault> {
-    let mut conn = rt.open_store(path).map_err(fault_of)?;
-    prepare_rows(alloc, &mut conn)?;
-    Ok(conn)
+) -> Result<Rt::Rows, KeepFault> {
+    if let Some(rows) = open.take() {
+        return Ok(rows);
+    }
+    let mut rows = rt.open_store(path).map_err(fault_of)?;
+    rows.prepare(alloc)?;
+    Ok(rows)
 }
 
 fn load_from<Rt: StoreRuntime>(
+    open: &mut Option<Rt::Rows>,
     rt: &Rt,
     alloc: Global,
     path: &str,
 ) -> Result<Vec<KeptRow>, KeepFault>
     ensures { IfOk result (λ rows. AreInKeyOrder rows.items) }
 {
-    let mut conn = open(rt, alloc, path)?;
-    let rows = load_rows(alloc, &mut conn)?;
-    settle(conn);
-    Ok(rows)
+    let mut rows = taken(open, rt, alloc, path)?;
+    let loaded = rows.load(alloc)?;
+    *open = Some(rows);
+    Ok(loaded)
 }
 
 fn commit_to<Rt: StoreRuntime>(
+    open: &mut Option<Rt::Rows>,
     rt: &Rt,
     alloc: Global,
     path: &str,
     row: &KeptRow,
 ) -> Result<(), KeepFault> {
-    let mut conn = open(rt, alloc, path)?;
-    commit_row(alloc, &mut conn, row)?;
-    settle(conn);
+    let mut rows = taken(open, rt, alloc, path)?;
+    rows.commit(alloc, row)?;
+    *open = Some(rows);
     Ok(())
-}
-
-/// Closes the file, and copies its log into it. What was committed is in the log until then, and the next open finds it
-/// there, so nothing is lost where the copy fails, and the call is no failure.
-fn settle(conn: Connection<FileStore<File>>) {
-    let _ = conn.close();
 }

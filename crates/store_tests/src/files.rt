@@ -2,6 +2,7 @@
 use crate::rows::{are, row};
 use keeper::{KeepFault, Keeper};
 use sqlite_keeper::SqliteKeeper;
+use std::alloc::Global;
 use std::test::Fail;
 use std::{env, fs, process};
 
@@ -28,41 +29,66 @@ fn keeper_at(rt: HostRuntime, path: &str) -> Result<SqliteKeeper<HostRuntime>, F
     Ok(SqliteKeeper::new(rt, String::from_str(rt.alloc(), path)?))
 }
 
+/// Commits rows, and a key that is no text before the last one, after which the keeper opens its file anew.
+fn commit_rows<K: Keeper>(alloc: Global, keeper: &mut K) -> Result<(), Fail> {
+    keeper.commit(alloc, &row(alloc, b"XX2-12", b"one")?)?;
+    keeper.commit(alloc, &row(alloc, b"XX10-12", b"FLIGHT 1\n")?)?;
+    let refused = keeper.commit(alloc, &row(alloc, b"XX\xff", b"two")?);
+    if refused != Err(KeepFault::Failed) {
+        return Err(Fail::from("a key that is no text is committed"));
+    }
+    keeper.commit(alloc, &row(alloc, b"XX2-12", b"three")?)?;
+    Ok(())
+}
+
+/// Whether a load has just these rows, in this order.
+fn has<K: Keeper>(alloc: Global, keeper: &mut K, wanted: &[(&[u8], &[u8])]) -> bool {
+    match keeper.load(alloc) {
+        Ok(rows) => are(&rows, wanted),
+        Err(_) => false,
+    }
+}
+
+/// Whether a load and a commit are failures.
+fn fails<K: Keeper>(alloc: Global, keeper: &mut K) -> Result<bool, Fail> {
+    let first = row(alloc, b"XX2-12", b"one")?;
+    Ok(
+        matches!(keeper.load(alloc), Err(KeepFault::Failed))
+            && keeper.commit(alloc, &first) == Err(KeepFault::Failed),
+    )
+}
+
 #[test]
 fn another_keeper_loads_what_was_committed(rt: HostRuntime) -> Result<(), Fail> {
     let alloc = rt.alloc();
     let path = path_of(&rt, "rows")?;
     let mut first = keeper_at(rt, path.as_str())?;
-    assert!(rt; first.load(alloc)?.is_empty());
-    first.commit(alloc, &row(alloc, b"XX2-12", b"one")?)?;
-    first.commit(alloc, &row(alloc, b"XX10-12", b"FLIGHT 1\n")?)?;
-    first.commit(alloc, &row(alloc, b"XX2-12", b"three")?)?;
     let mut second = keeper_at(rt, path.as_str())?;
-    let rows = second.load(alloc)?;
-    assert!(rt; are(&rows, &[(b"XX10-12", b"FLIGHT 1\n"), (b"XX2-12", b"three")]));
+    let is_empty = has(alloc, &mut first, &[]);
+    commit_rows(alloc, &mut first)?;
+    let is_locked = fails(alloc, &mut second)?;
+    drop(first);
+    let wanted: &[(&[u8], &[u8])] = &[(b"XX10-12", b"FLIGHT 1\n"), (b"XX2-12", b"three")];
+    let are_there = has(alloc, &mut second, wanted);
+    drop(second);
+    assert!(rt; is_empty && is_locked && are_there);
     remove(&rt, path.as_str())
 }
 
 #[test]
 fn a_folder_that_does_not_exist_is_a_failure(rt: HostRuntime) -> Result<(), Fail> {
-    let alloc = rt.alloc();
     let mut keeper = keeper_at(rt, "no/such/folder/flights.db")?;
-    assert!(rt; matches!(keeper.load(alloc), Err(KeepFault::Failed)));
-    let first = row(alloc, b"XX2-12", b"one")?;
-    assert_eq!(rt; keeper.commit(alloc, &first), Err(KeepFault::Failed));
+    assert!(rt; fails(rt.alloc(), &mut keeper)?);
     Ok(())
 }
 
 #[test]
 fn a_file_that_is_no_database_is_a_failure_and_stays(rt: HostRuntime) -> Result<(), Fail> {
-    let alloc = rt.alloc();
     let path = path_of(&rt, "text")?;
     let text = b"this is no database\n".as_slice();
     fs::write(&rt, path.as_str(), text)?;
     let mut keeper = keeper_at(rt, path.as_str())?;
-    assert!(rt; matches!(keeper.load(alloc), Err(KeepFault::Failed)));
-    let first = row(alloc, b"XX2-12", b"one")?;
-    assert_eq!(rt; keeper.commit(alloc, &first), Err(KeepFault::Failed));
+    assert!(rt; fails(rt.alloc(), &mut keeper)?);
     assert_eq!(rt; fs::read(&rt, path.as_str())?.as_slice(), text);
     remove(&rt, path.as_str())
 }

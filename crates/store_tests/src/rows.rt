@@ -1,10 +1,9 @@
 // What the tests say of rows.
 use keeper::{Bytes, KeptRow};
-use std::alloc::Global;
-use std::test::Fail;
+use std::alloc::{AllocError, Global};
 
 /// A row with these bytes under this key.
-pub fn row(alloc: Global, key: &[u8], bytes: &[u8]) -> Result<KeptRow, Fail> {
+pub fn row(alloc: Global, key: &[u8], bytes: &[u8]) -> Result<KeptRow, AllocError> {
     Ok(KeptRow {
         key: Bytes::from(Vec::from_slice(alloc, key)?),
         bytes: Bytes::from(Vec::from_slice(alloc, bytes)?),

@@ -28,17 +28,47 @@ fn run<S: Alter>(conn: &mut Connection<S>, sql: &str) -> Result<(), Fail> {
     Ok(())
 }
 
+/// Commits a row with these bytes under this key.
+fn put<S: Alter>(
+    alloc: Global,
+    conn: &mut Connection<S>,
+    key: &[u8],
+    bytes: &[u8],
+) -> Result<(), KeepFault> {
+    match row(alloc, key, bytes) {
+        Ok(row) => commit(alloc, conn, &row),
+        Err(_) => Err(KeepFault::NoMemory),
+    }
+}
+
+/// Whether a load has just these rows, in this order.
+fn has<S: Alter>(alloc: Global, conn: &mut Connection<S>, wanted: &[(&[u8], &[u8])]) -> bool {
+    match load(alloc, conn) {
+        Ok(rows) => are(&rows, wanted),
+        Err(_) => false,
+    }
+}
+
+fn load_fails<S: Alter>(alloc: Global, conn: &mut Connection<S>) -> bool {
+    matches!(load(alloc, conn), Err(KeepFault::Failed))
+}
+
+/// Commits two rows in the other order of their keys, and then the second one again.
+fn commit_three<S: Alter>(alloc: Global, conn: &mut Connection<S>) -> Result<(), KeepFault> {
+    prepare(alloc, conn)?;
+    put(alloc, conn, b"XX2-12", b"one")?;
+    put(alloc, conn, b"XX10-12", b"two")?;
+    prepare(alloc, conn)?;
+    put(alloc, conn, b"XX2-12", b"")
+}
+
 #[test]
 fn rows_are_loaded_in_the_order_of_their_keys(rt: HostRuntime) -> Result<(), Fail> {
     let alloc = rt.alloc();
     let mut conn = Connection::open_in_memory(alloc)?;
-    prepare(alloc, &mut conn)?;
-    commit(alloc, &mut conn, &row(alloc, b"XX2-12", b"one")?)?;
-    commit(alloc, &mut conn, &row(alloc, b"XX10-12", b"two")?)?;
-    prepare(alloc, &mut conn)?;
-    commit(alloc, &mut conn, &row(alloc, b"XX2-12", b"")?)?;
-    let rows = load(alloc, &mut conn)?;
-    assert!(rt; are(&rows, &[(b"XX10-12", b"two"), (b"XX2-12", b"")]));
+    let committed = commit_three(alloc, &mut conn);
+    let are_loaded = has(alloc, &mut conn, &[(b"XX10-12", b"two"), (b"XX2-12", b"")]);
+    assert!(rt; committed.is_ok() && are_loaded);
     Ok(())
 }
 
@@ -46,10 +76,10 @@ fn rows_are_loaded_in_the_order_of_their_keys(rt: HostRuntime) -> Result<(), Fai
 fn a_key_that_is_no_text_is_a_failure(rt: HostRuntime) -> Result<(), Fail> {
     let alloc = rt.alloc();
     let mut conn = Connection::open_in_memory(alloc)?;
-    prepare(alloc, &mut conn)?;
-    let bad = row(alloc, b"XX\xff", b"one")?;
-    assert_eq!(rt; commit(alloc, &mut conn, &bad), Err(KeepFault::Failed));
-    assert!(rt; load(alloc, &mut conn)?.is_empty());
+    let prepared = prepare(alloc, &mut conn);
+    let committed = put(alloc, &mut conn, b"XX\xff", b"one");
+    let is_empty = has(alloc, &mut conn, &[]);
+    assert!(rt; prepared.is_ok() && committed == Err(KeepFault::Failed) && is_empty);
     Ok(())
 }
 
@@ -57,44 +87,66 @@ fn a_key_that_is_no_text_is_a_failure(rt: HostRuntime) -> Result<(), Fail> {
 fn without_the_table_every_call_is_a_failure(rt: HostRuntime) -> Result<(), Fail> {
     let alloc = rt.alloc();
     let mut conn = Connection::open_in_memory(alloc)?;
-    assert!(rt; matches!(load(alloc, &mut conn), Err(KeepFault::Failed)));
-    let first = row(alloc, b"XX2-12", b"one")?;
-    assert_eq!(rt; commit(alloc, &mut conn, &first), Err(KeepFault::Failed));
+    let fails = load_fails(alloc, &mut conn);
+    let committed = put(alloc, &mut conn, b"XX2-12", b"one");
+    assert!(rt; fails && committed == Err(KeepFault::Failed));
     Ok(())
 }
 
-/// The answer to a load from a table that another program defined and filled.
-fn load_from_table(
+/// Defines the table as another program might, fills it, and prepares it.
+fn fill<S: Alter>(
     alloc: Global,
+    conn: &mut Connection<S>,
     definition: &str,
-    values: &str,
-) -> Result<Result<Vec<KeptRow>, KeepFault>, Fail> {
-    let mut conn = Connection::open_in_memory(alloc)?;
-    run(&mut conn, definition)?;
-    let insert = format!(in alloc; "INSERT INTO flight VALUES {values}")?;
-    run(&mut conn, insert.as_str())?;
-    prepare(alloc, &mut conn)?;
-    Ok(load(alloc, &mut conn))
+    insert: &str,
+) -> Result<(), Fail> {
+    run(conn, definition)?;
+    run(conn, insert)?;
+    prepare(alloc, conn)?;
+    Ok(())
 }
 
 #[test]
 fn a_table_that_others_made_is_read_as_it_is(rt: HostRuntime) -> Result<(), Fail> {
     let alloc = rt.alloc();
+    let mut conn = Connection::open_in_memory(alloc)?;
+    fill(
+        alloc,
+        &mut conn,
+        "CREATE TABLE flight (key TEXT, bytes BLOB)",
+        "INSERT INTO flight VALUES ('B', x''), ('A', x'01')",
+    )?;
+    let are_loaded = has(alloc, &mut conn, &[(b"A", b"\x01"), (b"B", b"")]);
+    assert!(rt; are_loaded);
+    Ok(())
+}
+
+/// Whether a load fails from a table that another program defined and filled so.
+fn fails_over(alloc: Global, definition: &str, insert: &str) -> Result<bool, Fail> {
+    let mut conn = Connection::open_in_memory(alloc)?;
+    fill(alloc, &mut conn, definition, insert)?;
+    Ok(load_fails(alloc, &mut conn))
+}
+
+#[test]
+fn rows_that_a_keeper_does_not_have_are_a_failure(rt: HostRuntime) -> Result<(), Fail> {
+    let alloc = rt.alloc();
     let texts = "CREATE TABLE flight (key TEXT, bytes BLOB)";
-    let rows = load_from_table(alloc, texts, "('B', x''), ('A', x'01')")??;
-    assert!(rt; are(&rows, &[(b"A", b"\x01"), (b"B", b"")]));
     let failing = [
-        (texts, "('A', x'01'), ('A', x'02')"),
-        (texts, "('A', 'text')"),
-        (texts, "(NULL, x'01')"),
+        (
+            texts,
+            "INSERT INTO flight VALUES ('A', x'01'), ('A', x'02')",
+        ),
+        (texts, "INSERT INTO flight VALUES ('A', 'text')"),
+        (texts, "INSERT INTO flight VALUES (NULL, x'01')"),
         (
             "CREATE TABLE flight (key BLOB, bytes BLOB)",
-            "(x'41', x'01')",
+            "INSERT INTO flight VALUES (x'41', x'01')",
         ),
     ];
-    for (definition, values) in failing {
-        let answer = load_from_table(alloc, definition, values)?;
-        assert!(rt; matches!(answer, Err(KeepFault::Failed)), "for {values}");
+    for (definition, insert) in failing {
+        let fails = fails_over(alloc, definition, insert)?;
+        assert!(rt; fails, "for {insert}");
     }
     Ok(())
 }

@@ -1,7 +1,10 @@
 // Whole runs of the program, over files, an input and an output in memory.
 use super::*;
+use crate::system::execute_on;
 use load_io::{MemoryShelf, MemorySink, SureSource};
 use placer::Direct;
+use sqlite_keeper::StoreRuntime;
+use std::net::{Net, TcpListener, TcpStream};
 use std::test::Fail;
 
 /// A task without containers.
@@ -33,21 +36,26 @@ fn args_from(alloc: Global, texts: &[&str]) -> Result<Args, NoMemory> {
 }
 
 /// The exit status, a space, and what is printed with these arguments over a file `t`.
-fn executed<Rt: Threads + Wait + Sync, M: Objects>(
-    rt: &Rt,
-    alloc: Global,
-    args: io::Result<Args>,
-    objects: &M,
-) -> Result<String, NoMemory> {
+fn executed<
+    Rt: Threads
+        + Wait
+        + Sync
+        + StoreRuntime
+        + Net<Listener = TcpListener, Stream = TcpStream>
+        + Copy
+        + Send
+        + Drop,
+>(rt: &Rt, alloc: Global, args: io::Result<Args>) -> Result<String, NoMemory>
+where
+    Rt::Rows: Send,
+{
     let mut files = Vec::new(alloc);
     let task = Vec::from_slice(alloc, TASK.as_bytes())?;
     files.push((String::from_str(alloc, "t")?, task))?;
     let mut shelf = MemoryShelf::new(files, Vec::new(alloc));
     let mut input = SureSource::new(Vec::new(alloc));
     let mut out = MemorySink::new(alloc, 1_000, Vec::new(alloc))?;
-    let status = execute(
-        rt, alloc, args, &mut shelf, &mut input, &mut out, objects, &Direct,
-    );
+    let status = execute_on(rt, alloc, args, &mut shelf, &mut input, &mut out, &Direct);
     let mut text = format!(in alloc; "{status} ")?;
     text.push_str(str::from_utf8(out.written()).unwrap_or("?"))?;
     Ok(text)
@@ -63,7 +71,7 @@ fn the_arguments_after_the_name_are_run(rt: HostRuntime) -> Result<(), Fail> {
     ];
     for (texts, due) in rows {
         let args = args_from(rt.alloc(), texts)?;
-        let text = executed(&rt, rt.alloc(), Ok(args), &rt)?;
+        let text = executed(&rt, rt.alloc(), Ok(args))?;
         assert_eq!(rt; text.as_str(), due);
     }
     Ok(())
@@ -78,7 +86,7 @@ fn arguments_that_are_not_text_are_invalid(rt: HostRuntime) -> Result<(), Fail> 
     ];
     for (kind, due) in rows {
         let args = Err(io::Error::from(kind));
-        let text = executed(&rt, rt.alloc(), args, &rt)?;
+        let text = executed(&rt, rt.alloc(), args)?;
         assert_eq!(rt; text.as_str(), due);
     }
     Ok(())
