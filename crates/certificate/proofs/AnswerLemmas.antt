@@ -1,7 +1,7 @@
 -- each text has one fault at most, and a certificate or a fault
 use Rattle.std.proofs.Common.{◌≡◌, ◌≢◌, ⊎_elim, ◌⊎◌, inl, inr, ℕ, ◌+◌, true, false, eqb, ◌++◌, ◌∷◌, List, [], length, refl, sym, ◌∙◌, ap, subst, All}
 use Rattle.std.specs.Prelude.{bytes_eq}
-use Rattle.std.proofs.lemmas.Bool.{cases_Bool, eqb-true, true≢false}
+use Rattle.std.proofs.lemmas.Bool.{cases_Bool, true≢false}
 use Rattle.std.proofs.lemmas.Slice.Eq.{bytes_eq-Decides}
 use Rattle.std.proofs.lemmas.List.{append_assoc, append-nil}
 use Rattle.std.proofs.lemmas.List.Elements.{All-head, All-tail, All-nil, All-cons, All-same, All-append}
@@ -14,15 +14,17 @@ use Rattle.text_lines.specs.declared.fault.LineFault.{LineFault}
 use Rattle.text_lines.specs.declared.fault.LineFault.TheVariants as fault
 use Rattle.text_lines.proofs.CutLemmas.{split_once_again, has_mark}
 use Rattle.text_lines.proofs.SectionLemmas.{text_of-append}
-use Rattle.certificate.specs.CertificateText.{start_line, IsEarlier, StartsAfter, Spells}
+use Rattle.certificate.specs.Starts.{IsEarlier, StartsAfter}
+use Rattle.certificate.specs.CertificateText.{start_line, Spells}
 use Rattle.certificate.specs.Refusals.{AreEvidence, IsRefused, cert_fault}
 use Rattle.certificate.specs.Refusals.IsRefused.{no_start, wrong_lines}
 use Rattle.certificate.specs.declared.parts.Certificate.{Certificate}
 use Rattle.certificate.specs.declared.fault.CertFault.{CertFault}
 use Rattle.certificate.specs.declared.fault.CertFault.TheVariants.{NoStart, Line, NoEnd, NoMemory}
 use Rattle.certificate.proofs.PathLemmas.{AreClear}
-use Rattle.text_lines.proofs.TextCuts.{AreLines, compare, IsCut, cut_text}
+use Rattle.text_lines.proofs.TextCuts.{AreLines, compare, cut_text}
 use Rattle.certificate.proofs.StartLemmas.{starts_once, no_start_starts}
+use Rattle.certificate.proofs.ReadLemmas.{start_plain}
 use Rattle.certificate.proofs.EvidenceLemmas.{begin_lines, ends_once}
 use Rattle.certificate.proofs.FaultLemmas.{some_evidence}
 
@@ -138,10 +140,10 @@ fails_once ps spaces feeds text number a b p q =
 
 pub refused_once : (ps : List Position) → AreClear 32 ps → AreClear 10 ps → (text : List ℕ) (a b : CertFault) → IsRefused ps text a → IsRefused ps text b → a ≢ NoMemory → b ≢ NoMemory → a ≡ b
 refused_once ps spaces feeds text _ _ (no_start none) (no_start none') not_a not_b = refl
-refused_once ps spaces feeds text _ _ (no_start none) (wrong_lines before rest f starts fails) not_a not_b = absurd (no_start_starts text before rest none starts)
-refused_once ps spaces feeds text _ _ (wrong_lines before rest f starts fails) (no_start none) not_a not_b = absurd (no_start_starts text before rest none starts)
+refused_once ps spaces feeds text _ _ (no_start none) (wrong_lines before rest f starts fails) not_a not_b = absurd (no_start_starts start_line start_plain text before rest none starts)
+refused_once ps spaces feeds text _ _ (wrong_lines before rest f starts fails) (no_start none) not_a not_b = absurd (no_start_starts start_line start_plain text before rest none starts)
 refused_once ps spaces feeds text _ _ (wrong_lines before rest f starts fails) (wrong_lines before' rest' f' starts' fails') not_a not_b =
-    let same = starts_once before before' text rest rest' starts starts' in
+    let same = starts_once start_line start_plain before before' text rest rest' starts starts' in
     let At : Lines → List ℕ → Type 0 = λ lines t. Fails (AreEvidence ps) t (length lines + 2) f' in
     let at_rest : At before' rest = subst (λ (t : List ℕ). At before' t) (sym same.1) fails' in
     let at_both : At before rest = subst (λ (lines : Lines). At lines rest) (sym same.0) at_rest in
@@ -171,14 +173,14 @@ has_longest ps lines (line ∷ more) begins none =
     let halt : Begins (AreEvidence ps) (lines ++ line ∷ []) → ⊥ = λ longer. has_longest ps (lines ++ line ∷ []) more longer (subst (HasNoLongest ps) (sym (append_assoc lines (line ∷ []) more)) none) in
     none lines (line ∷ more) refl begins (λ other after e longer. let same : other ≡ line = cc in halt (subst (λ (x : List ℕ). Begins (AreEvidence ps) (lines ++ x ∷ [])) same longer))
 
-of_lines : (ps : List Position) (text : List ℕ) (before lines : Lines) (rest start : List ℕ) → HasNoCertificate ps text → HasNoFault ps text → StartsAfter before text start → start ≡ text_of lines ++ rest → AreEvidence ps lines → ⊥
+of_lines : (ps : List Position) (text : List ℕ) (before lines : Lines) (rest start : List ℕ) → HasNoCertificate ps text → HasNoFault ps text → StartsAfter start_line before text start → start ≡ text_of lines ++ rest → AreEvidence ps lines → ⊥
 of_lines ps text before lines [] start none faults starts e are =
     let whole : start ≡ text_of lines = e ∙ append-nil (text_of lines) in
-    none are.said (record { before = before; starts = subst (StartsAfter before text) (whole ∙ ap text_of are.are) starts; spelled = are.spelled })
+    none are.said (record { before = before; starts = subst (StartsAfter start_line before text) (whole ∙ ap text_of are.are) starts; spelled = are.spelled })
 of_lines ps text before lines (byte ∷ rest) start none faults starts e are =
     let same = faults (Line (length lines + (length before + 2))) (wrong_lines before start (fault.Line (length lines + (length before + 2))) starts (more_bytes lines byte rest e are)) in absurd (cc)
 
-of_longest : (ps : List Position) (text : List ℕ) (before lines more : Lines) (rest start : List ℕ) → HasNoCertificate ps text → HasNoFault ps text → StartsAfter before text start → start ≡ text_of (lines ++ more) ++ rest → AreLines more → Avoids 10 rest → Begins (AreEvidence ps) lines → NoneGoesOn ps lines more → ⊥
+of_longest : (ps : List Position) (text : List ℕ) (before lines more : Lines) (rest start : List ℕ) → HasNoCertificate ps text → HasNoFault ps text → StartsAfter start_line before text start → start ≡ text_of (lines ++ more) ++ rest → AreLines more → Avoids 10 rest → Begins (AreEvidence ps) lines → NoneGoesOn ps lines more → ⊥
 of_longest ps text before lines [] rest start none faults starts e clear end begins halt =
     let whole : start ≡ text_of lines ++ rest = e ∙ ap (λ (xs : Lines). text_of xs ++ rest) (append-nil lines) in
     let same = faults NoEnd (wrong_lines before start fault.NoEnd starts (early_end lines rest whole end begins (of_lines ps text before lines rest start none faults starts whole))) in
@@ -195,13 +197,13 @@ after : (lines more : Lines) → AreLines (lines ++ more) → AreLines more
 after [] more clear = clear
 after (line ∷ lines) more clear = after lines more (All-tail (Avoids 10) line (lines ++ more) clear)
 
-of_start : (ps : List Position) (text : List ℕ) (before more : Lines) (rest start : List ℕ) → HasNoCertificate ps text → HasNoFault ps text → StartsAfter before text start → start ≡ text_of more ++ rest → AreLines more → Avoids 10 rest → ⊥
+of_start : (ps : List Position) (text : List ℕ) (before more : Lines) (rest start : List ℕ) → HasNoCertificate ps text → HasNoFault ps text → StartsAfter start_line before text start → start ≡ text_of more ++ rest → AreLines more → Avoids 10 rest → ⊥
 of_start ps text before more rest start none faults starts e clear end =
     has_longest ps [] more (some_evidence ps) (λ lines others g begins halt.
     of_longest ps text before lines others rest start none faults starts (e ∙ ap (λ (xs : Lines). text_of xs ++ rest) g) (after lines others (subst AreLines g clear)) end begins halt)
 
 -- the text's lines, one after another: these were skipped
-pass : (ps : List Position) (text : List ℕ) (before more : Lines) (rest : List ℕ) → HasNoCertificate ps text → HasNoFault ps text → All IsEarlier before → text ≡ text_of before ++ (text_of more ++ rest) → AreLines more → Avoids 10 rest → ⊥
+pass : (ps : List Position) (text : List ℕ) (before more : Lines) (rest : List ℕ) → HasNoCertificate ps text → HasNoFault ps text → All (IsEarlier start_line) before → text ≡ text_of before ++ (text_of more ++ rest) → AreLines more → Avoids 10 rest → ⊥
 pass ps text before [] rest none faults earlier e clear end =
     let same = faults NoStart (no_start (record { lines = before; rest = rest; earlier = earlier; end = end; is = e })) in absurd (cc)
 pass ps text before (line ∷ more) rest none faults earlier e clear end =
@@ -211,8 +213,8 @@ pass ps text before (line ∷ more) rest none faults earlier e clear end =
     let is = (bytes_eq-Decides line start_line).0 same in
     of_start ps text before more rest (text_of more ++ rest) none faults (record { earlier = earlier; is = whole ∙ ap (λ l. text_of before ++ (l ++ 10 ∷ (text_of more ++ rest))) is }) refl (All-tail (Avoids 10) line more clear) end)
     (λ (other : bytes_eq line start_line ≡ false).
-    let one : IsEarlier line = record { whole = All-head (Avoids 10) line more clear; other = λ g. true≢false (sym ((bytes_eq-Decides line start_line).1 g) ∙ other) } in
-    let longer = All-append IsEarlier before (line ∷ []) earlier (All-cons IsEarlier line [] one (All-nil IsEarlier)) in
+    let one : IsEarlier start_line line = record { whole = All-head (Avoids 10) line more clear; other = λ g. true≢false (sym ((bytes_eq-Decides line start_line).1 g) ∙ other) } in
+    let longer = All-append (IsEarlier start_line) before (line ∷ []) earlier (All-cons (IsEarlier start_line) line [] one (All-nil (IsEarlier start_line))) in
     let lines : text ≡ text_of (before ++ line ∷ []) ++ (text_of more ++ rest) =
     whole ∙ ap (λ t. text_of before ++ t) (sym (append_assoc line (10 ∷ []) (text_of more ++ rest))) ∙ sym (append_assoc (text_of before) (line ++ 10 ∷ []) (text_of more ++ rest))
     ∙ ap (λ t. t ++ (text_of more ++ rest)) (sym (text_of-append before (line ∷ []))) in
@@ -222,4 +224,4 @@ pass ps text before (line ∷ more) rest none faults earlier e clear end =
 pub some_answer : (ps : List Position) (text : List ℕ) → HasNoCertificate ps text → HasNoFault ps text → ⊥
 some_answer ps text none faults =
     let cut = cut_text text in
-    pass ps text [] cut.lines cut.rest none faults (All-nil IsEarlier) cut.is cut.clear cut.end
+    pass ps text [] cut.lines cut.rest none faults (All-nil (IsEarlier start_line)) cut.is cut.clear cut.end

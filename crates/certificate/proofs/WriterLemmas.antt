@@ -1,7 +1,7 @@
 -- texts that grow by one entry after another
-use Rattle.std.proofs.Common.{◌≡◌, ◌≢◌, ℕ, ◌+◌, ◌<◌, ◌≤◌, List, [], ◌∷◌, ◌++◌, length, map, take, get_or, Some, IfSome, subst, refl, ap, sym, ◌∙◌, arith}
-use Rattle.std.proofs.lemmas.List.{append-nil, append_assoc, take_more, get_or-take, length-take}
-use Rattle.std.proofs.lemmas.List.Elements.{All-push, All-weaker, All-head, All-tail, All-nil, All-cons}
+use Rattle.std.proofs.Common.{◌≡◌, ◌≢◌, ℕ, ◌<◌, ◌≤◌, List, [], ◌∷◌, ◌++◌, length, map, take, get_or, Some, IfSome, refl, ap, sym, ◌∙◌, arith}
+use Rattle.std.proofs.lemmas.List.{append_assoc, get_or-take, length-take}
+use Rattle.std.proofs.lemmas.List.Elements.{All-weaker, All-head, All-tail, All-nil, All-cons}
 use Rattle.std.proofs.lemmas.Option.{slice_get-get_or}
 use Rattle.std.specs.Option.{option_map_or}
 use Rattle.std.specs.Prelude.{All, AllPairs, slice_get, codes}
@@ -10,10 +10,10 @@ use Rattle.hold_parts.specs.declared.parts.Position.{Position}
 use Rattle.hold_limits.specs.Layout.{name_at}
 use Rattle.text_lines.specs.Lines.{text_of}
 use Rattle.text_lines.specs.Names.{IsNamed}
-use Rattle.text_lines.specs.WordRuns.{run_text}
 use Rattle.text_lines.proofs.SectionLemmas.{text_of-append}
 use Rattle.certificate.specs.Evidence.{claimed, paths_of}
-use Rattle.certificate.specs.CertificateText.{start_line, claim_line, cut_line, expanded_line, certificate_text, IsSpelledPath, IsSpelledClaim, IsSpelledNumber, AreFewCuts, IsEarlier, Spells}
+use Rattle.certificate.specs.Starts.{IsEarlier}
+use Rattle.certificate.specs.CertificateText.{start_line, claim_line, cut_line, expanded_line, certificate_text, IsSpelledPath, IsSpelledClaim, IsSpelledNumber, AreFewCuts, Spells}
 use Rattle.certificate.specs.declared.parts.Claim.{Claim}
 use Rattle.certificate.specs.declared.parts.Claim.TheVariants.{Best, NoneFits}
 use Rattle.certificate.specs.declared.parts.Certificate.{Certificate}
@@ -80,7 +80,7 @@ cuts_spelled ps differ (cut ∷ cuts) known few =
     All-cons (IsSpelledPath ps) cut cuts (path_spelled ps differ cut (All-head (AreKnown ps) cut cuts known) (All-head (λ cut. length cut ≤ 60) cut cuts few))
     (cuts_spelled ps differ cuts (All-tail (AreKnown ps) cut cuts known) (All-tail (λ cut. length cut ≤ 60) cut cuts few))
 
-pub written_spells : (ps : List Position) → AllPairs (λ (a b : Position). a.name ≢ b.name) ps → (c : Certificate) → IfSome (claimed c.claim) (AreKnown ps) → All (AreKnown ps) c.cuts → IfSome (claimed c.claim) (λ path. length path ≤ 60) → All (λ cut. length cut ≤ 60) c.cuts → IsSpelledNumber c.expanded → AreFewCuts c.cuts → (text : List ℕ) → text ≡ certificate_text ps c → (before : List (List ℕ)) → All IsEarlier before → Spells ps (text_of before ++ text) c
+pub written_spells : (ps : List Position) → AllPairs (λ (a b : Position). a.name ≢ b.name) ps → (c : Certificate) → IfSome (claimed c.claim) (AreKnown ps) → All (AreKnown ps) c.cuts → IfSome (claimed c.claim) (λ path. length path ≤ 60) → All (λ cut. length cut ≤ 60) c.cuts → IsSpelledNumber c.expanded → AreFewCuts c.cuts → (text : List ℕ) → text ≡ certificate_text ps c → (before : List (List ℕ)) → All (IsEarlier start_line) before → Spells ps (text_of before ++ text) c
 written_spells ps differ c claim cuts short shorts number few text e before earlier = record {
   before = before;
   starts = record { earlier = earlier; is = ap (λ t. text_of before ++ t) e };

@@ -1,11 +1,11 @@
 -- the text of a certificate, line by line
-use Rattle.std.specs.Prelude.{◌≡◌, ◌≢◌, ℕ, ◌≤◌, List, [], ◌∷◌, ◌++◌, length, map, All, IfSome, codes}
+use Rattle.std.specs.Prelude.{ℕ, ◌≤◌, List, [], ◌∷◌, ◌++◌, length, map, All, IfSome, codes}
 use Rattle.mass_units.specs.Spelling.{number_text}
 use Rattle.hold_parts.specs.declared.parts.Position.{Position}
 use Rattle.hold_limits.specs.Layout.{name_at}
-use Rattle.text_lines.specs.Cuts.{Avoids}
 use Rattle.text_lines.specs.Lines.{line_of, text_of}
 use Rattle.text_lines.specs.Names.{IsNamed}
+use Rattle.certificate.specs.Starts.{StartsAfter}
 use Rattle.certificate.specs.Evidence.{claimed}
 use Rattle.certificate.specs.declared.parts.Claim.{Claim}
 use Rattle.certificate.specs.declared.parts.Claim.TheVariants.{Best, NoneFits}
@@ -71,18 +71,8 @@ pub record IsSpelled (positions : List Position) (c : Certificate) : Type 0 wher
 
 -- The text --------------------------------------------------------------------------------------
 
--- a line that may stand before a certificate
-pub record IsEarlier (line : List ℕ) : Type 0 where
-  pub whole : Avoids 10 line
-  pub other : line ≢ start_line
-
--- the first line `CERTIFICATE 1` of the text stands between these lines and this rest
-pub record StartsAfter (before : List (List ℕ)) (text rest : List ℕ) : Type 0 where
-  pub earlier : All IsEarlier before
-  pub is : text ≡ text_of before ++ (start_line ++ 10 ∷ rest)
-
 -- the text spells the certificate: its lines are the last ones of the text, and each part of it can be spelled
 pub record Spells (positions : List Position) (text : List ℕ) (c : Certificate) : Type 0 where
   pub before : List (List ℕ)
-  pub starts : StartsAfter before text (text_of (evidence_lines positions c))
+  pub starts : StartsAfter start_line before text (text_of (evidence_lines positions c))
   pub spelled : IsSpelled positions c

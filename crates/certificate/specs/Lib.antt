@@ -1,5 +1,6 @@
 pub mod Evidence
 pub mod Good
+pub mod Starts
 pub mod CertificateText
 pub mod Refusals
 pub mod Reading

@@ -1,12 +1,11 @@
 -- why a text is refused
-use Rattle.std.specs.Prelude.{◌≡◌, ℕ, ◌+◌, List, ◌++◌, length, All}
+use Rattle.std.specs.Prelude.{◌≡◌, ℕ, ◌+◌, List, length}
 use Rattle.hold_parts.specs.declared.parts.Position.{Position}
-use Rattle.text_lines.specs.Cuts.{Avoids}
-use Rattle.text_lines.specs.Lines.{text_of}
 use Rattle.text_lines.specs.Grammar.{Fails}
 use Rattle.text_lines.specs.declared.fault.LineFault.{LineFault}
 use Rattle.text_lines.specs.declared.fault.LineFault.TheVariants as line
-use Rattle.certificate.specs.CertificateText.{evidence_lines, IsSpelled, IsEarlier, StartsAfter}
+use Rattle.certificate.specs.Starts.{StartsAfter, HasNoStart}
+use Rattle.certificate.specs.CertificateText.{start_line, evidence_lines, IsSpelled}
 use Rattle.certificate.specs.declared.parts.Certificate.{Certificate}
 use Rattle.certificate.specs.declared.fault.CertFault.{CertFault}
 use Rattle.certificate.specs.declared.fault.CertFault.TheVariants.{NoStart, Line, NoEnd, NoMemory}
@@ -23,18 +22,10 @@ cert_fault (line.Line n) = Line n
 cert_fault line.NoEnd = NoEnd
 cert_fault line.NoMemory = NoMemory
 
--- no line of the text is `CERTIFICATE 1`; a last piece without an LF is no line
-pub record HasNoStart (text : List ℕ) : Type 0 where
-  pub lines : List (List ℕ)
-  pub rest : List ℕ
-  pub earlier : All IsEarlier lines
-  pub end : Avoids 10 rest
-  pub is : text ≡ text_of lines ++ rest
-
 -- the text is refused for this fault
 pub data IsRefused (positions : List Position) (text : List ℕ) : CertFault → Type 0 where
-  no_start : HasNoStart text → IsRefused positions text NoStart
+  no_start : HasNoStart start_line text → IsRefused positions text NoStart
   -- what follows the first line `CERTIFICATE 1` is not made of the other lines of a certificate; lines count from the
   -- first one of the text
-  wrong_lines : (before : List (List ℕ)) (rest : List ℕ) (fault : LineFault) → StartsAfter before text rest
+  wrong_lines : (before : List (List ℕ)) (rest : List ℕ) (fault : LineFault) → StartsAfter start_line before text rest
       → Fails (AreEvidence positions) rest (length before + 2) fault → IsRefused positions text (cert_fault fault)

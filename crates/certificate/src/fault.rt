@@ -4,13 +4,13 @@ ghost use Rattle.certificate.specs.Refusals.{cert_fault};
 use text_lines::LineFault;
 use thiserror::Error;
 
-/// Why a text is not read as a certificate. Lines count from 1, the first of the whole text.
+/// Why a text is not read as a certificate of one kind or the other. Lines count from 1, the first of the whole text.
 #[derive(Clone, Copy, Debug, PartialEq, Eq, Error)]
 pub enum CertFault {
-    /// The text has no line `CERTIFICATE 1`.
-    #[error("the text has no line `CERTIFICATE 1`")]
+    /// The text has no line with which such a certificate begins, as `CERTIFICATE 1`.
+    #[error("the text has no line with which the certificate begins")]
     NoStart,
-    /// The first line that no certificate has there, given the lines from `CERTIFICATE 1` on before it.
+    /// The first line that no certificate has there, given the lines from its start on before it.
     #[error("line {0} is not a line of a certificate")]
     Line(usize),
     /// The text stops before the end of its line `END`.

@@ -30,5 +30,5 @@ pub use line_readers::next_claim;
 pub use line_writers::{push_claim, push_path};
 pub use name_table::NameTable;
 pub use parts::{Certificate, Claim, Cuts};
-pub use reader::read_certificate;
+pub use reader::{after_start, read_certificate};
 pub use writer::{push_certificate, write_certificate};

@@ -5,8 +5,9 @@ ghost use Rattle.hold_parts.specs.Spellings.{IsName};
 ghost use Rattle.hold_parts.specs.declared.parts.Position.{Position};
 ghost use Rattle.text_lines.specs.Grammar.{Fails};
 ghost use Rattle.text_lines.specs.Lines.{text_of};
-ghost use Rattle.certificate.specs.CertificateText.{evidence_lines, IsSpelled, StartsAfter, Spells};
-ghost use Rattle.certificate.specs.Refusals.{AreEvidence, HasNoStart, IsRefused};
+ghost use Rattle.certificate.specs.Starts.{StartsAfter, HasNoStart};
+ghost use Rattle.certificate.specs.CertificateText.{evidence_lines, IsSpelled, Spells};
+ghost use Rattle.certificate.specs.Refusals.{AreEvidence, IsRefused};
 ghost use Rattle.certificate.specs.declared.parts.Certificate.{Certificate};
 
 use crate::fault::CertFault;
@@ -34,21 +35,21 @@ pub fn read_certificate(alloc: Global, task: &Task, text: &[u8]) -> Result<Certi
         → MatchResult result (λ got. got ≡ c) (λ fault. fault ≡ CertFault.NoMemory) }
 {
     let positions = task.hold().named_positions();
-    let Some(mut lines) = after_start(text) else {
+    let Some(mut lines) = after_start(text, START) else {
         return Err(CertFault::NoStart);
     };
     Ok(read_evidence(alloc, positions, &mut lines)?)
 }
 
-/// The lines after the first line `CERTIFICATE 1`. None where there is no such line.
-fn after_start(text: &[u8]) -> Option<Lines<'_>>
-    ensures found { IfSome result (λ lines. (before : List (List ℕ)) × StartsAfter before text.now lines.rest.now
+/// The lines after the first line that is this start. None where there is no such line.
+pub fn after_start<'t>(text: &'t [u8], start: &[u8]) -> Option<Lines<'t>>
+    ensures found { IfSome result (λ lines. (before : List (List ℕ)) × StartsAfter start.now before text.now lines.rest.now
         × (lines.number ≡ length before + 2)) }
-    ensures none { IfNone result (HasNoStart text.now) }
+    ensures none { IfNone result (HasNoStart start.now text.now) }
 {
     let mut lines = Lines::new(text);
     while let Some((line, after)) = lines.split_first() {
-        if line == START {
+        if line == start {
             return Some(after);
         }
         lines = after;

@@ -3,7 +3,8 @@
 ghost use Rattle.std.specs.Prelude.{◌≡◌, ◌<◌, ◌≤◌, ℕ, List, ◌++◌, length, All, IfOk, IfSome, OnOk};
 ghost use Rattle.text_lines.specs.Lines.{text_of};
 ghost use Rattle.certificate.specs.Evidence.{claimed};
-ghost use Rattle.certificate.specs.CertificateText.{certificate_text, IsEarlier, IsSpelledNumber, AreFewCuts, Spells};
+ghost use Rattle.certificate.specs.Starts.{IsEarlier};
+ghost use Rattle.certificate.specs.CertificateText.{start_line, certificate_text, IsSpelledNumber, AreFewCuts, Spells};
 
 use crate::line_writers::{push_claim, push_cuts, push_expanded};
 use crate::parts::Certificate;
@@ -43,7 +44,7 @@ pub fn write_certificate(
     requires cuts { All (All (λ q. q < length task.now.hold.positions)) certificate.now.cuts }
     ensures written { IfOk result (λ text. text.items ≡ certificate_text task.now.hold.positions certificate.now) }
     ensures read_back { IsSpelledNumber certificate.now.expanded → AreFewCuts certificate.now.cuts
-        → IfOk result (λ text. (before : List (List ℕ)) → All IsEarlier before
+        → IfOk result (λ text. (before : List (List ℕ)) → All (IsEarlier start_line) before
         → Spells task.now.hold.positions (text_of before ++ text.items) certificate.now) }
 {
     let _hold = task.hold();

@@ -15,7 +15,6 @@ use Rattle.certificate.specs.declared.parts.Certificate.{Certificate}
 use Rattle.certificate.proofs.PathLemmas.{clear_names}
 use Rattle.certificate.proofs.ReadLemmas.{spelled_has_no_fault}
 use Rattle.tree_certificate.specs.Listed.{ListedTrees}
-use Rattle.tree_certificate.specs.declared.fault.TreeFault.TheVariants as tree
 use Rattle.tree_certificate.proofs.ReadLemmas.{spelled_has_no_fault as trees_have_no_fault}
 use Rattle.plan_commands.specs.declared.ending.Outcome.{Outcome}
 use Rattle.plan_commands.specs.declared.ending.Outcome.TheVariants.{Usage, BadInput}
@@ -67,7 +66,7 @@ trees-not_refused : (t : Problem) (bytes line : List ℕ) (c : ListedTrees) → 
     → AreTreesIn t bytes c → IsTreeRefusal t bytes line → ⊥
 trees-not_refused t bytes _ c named right (trees_too_long long) = absurd (omega (arith, right.short))
 trees-not_refused t bytes _ c named right (no_trees fault line short why is) =
-    let none : fault ≡ tree.NoMemory = trees_have_no_fault t.hold.positions named bytes c fault right.spelled why in
+    let none : fault ≡ cert.NoMemory = trees_have_no_fault t.hold.positions named bytes c fault right.spelled why in
     rw none at is
 
 -- the files of a job are not refused where they are right

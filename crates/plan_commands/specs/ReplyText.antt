@@ -22,8 +22,6 @@ use Rattle.cert_checker.specs.declared.reject.Reject.{Reject}
 use Rattle.cert_checker.specs.declared.reject.Reject.TheVariants.{NotAPlacement, CutOrder, CutNotViable, CutWeak, Nearer, Exists, MoreExpanded}
 use Rattle.tree_certificate.specs.Listed.{ListedTrees}
 use Rattle.tree_certificate.specs.TreeText.{tree_text}
-use Rattle.tree_certificate.specs.declared.fault.TreeFault.{TreeFault}
-use Rattle.tree_certificate.specs.declared.fault.TreeFault.TheVariants as tree
 use Rattle.tree_checker.specs.declared.rejection.TreeRejection.{TreeRejection}
 use Rattle.tree_checker.specs.declared.rejection.TreeRejection.TheVariants as wrong
 use Rattle.placer.specs.AnswerText.{claim_text}
@@ -85,13 +83,6 @@ IsCertificateFaultLine cert.NoStart line = line ≡ one_line (codes "INPUT" ∷ 
 IsCertificateFaultLine (cert.Line n) line = line ≡ input_text (codes "LINE") n
 IsCertificateFaultLine cert.NoEnd line = line ≡ one_line (codes "INPUT" ∷ codes "END" ∷ [])
 IsCertificateFaultLine cert.NoMemory line = ⊥
-
--- the same for a fault of the text of a certificate of trees
-abbrev pub IsTreeFaultLine : TreeFault → List ℕ → Type 0
-IsTreeFaultLine tree.NoStart line = line ≡ one_line (codes "INPUT" ∷ codes "START" ∷ [])
-IsTreeFaultLine (tree.Line n) line = line ≡ input_text (codes "LINE") n
-IsTreeFaultLine tree.NoEnd line = line ≡ one_line (codes "INPUT" ∷ codes "END" ∷ [])
-IsTreeFaultLine tree.NoMemory line = ⊥
 
 -- Judged certificates ---------------------------------------------------------------------------
 

@@ -7,13 +7,13 @@ use Rattle.cert_checker.specs.Claims.{HasNoPlacement}
 use Rattle.tree_certificate.specs.Listed.{ListedTrees}
 use Rattle.tree_certificate.specs.TreeText.{Spells}
 use Rattle.tree_certificate.specs.Refusals.{IsRefused}
-use Rattle.tree_certificate.specs.declared.fault.TreeFault.{TreeFault}
+use Rattle.certificate.specs.declared.fault.CertFault.{CertFault}
 use Rattle.tree_checker.specs.GoodTrees.{IsGoodTrees}
 use Rattle.tree_checker.specs.FirstReason.{IsRejected}
 use Rattle.tree_checker.specs.declared.rejection.TreeRejection.{TreeRejection}
 use Rattle.plan_commands.specs.declared.ending.Outcome.{Outcome}
 use Rattle.plan_commands.specs.declared.ending.Outcome.TheVariants.{Done, NothingFits, Undecided, Rejected}
-use Rattle.plan_commands.specs.ReplyText.{longest_certificate, long_text, IsTreeFaultLine, IsTreeRejectionLine, good_text, tree_evidence_text, undecided_text}
+use Rattle.plan_commands.specs.ReplyText.{longest_certificate, long_text, IsCertificateFaultLine, IsTreeRejectionLine, good_text, tree_evidence_text, undecided_text}
 
 -- the bytes of a file are not too many, and spell this certificate of trees for the task
 pub record AreTreesIn (t : Problem) (bytes : List ℕ) (c : ListedTrees) : Type 0 where
@@ -25,8 +25,8 @@ pub data IsTreeRefusal (t : Problem) (bytes : List ℕ) : List ℕ → Type 0 wh
   -- they are too many
   too_long : longest_certificate < length bytes → IsTreeRefusal t bytes long_text
   -- they spell no certificate of trees: this is their first fault
-  no_trees : (fault : TreeFault) (line : List ℕ) → length bytes ≤ longest_certificate → IsRefused t.hold.positions bytes fault
-      → IsTreeFaultLine fault line → IsTreeRefusal t bytes line
+  no_trees : (fault : CertFault) (line : List ℕ) → length bytes ≤ longest_certificate → IsRefused t.hold.positions bytes fault
+      → IsCertificateFaultLine fault line → IsTreeRefusal t bytes line
 
 -- the placement of a task by a search with so many looks: an outcome and its text
 pub data IsTreePlacing (t : Problem) (looks : ℕ) : Outcome → List ℕ → Type 0 where

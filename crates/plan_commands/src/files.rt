@@ -10,9 +10,7 @@ ghost use Rattle.plan_commands.specs.Reply.{IsTaskIn, IsRefusal, IsCertificateIn
 ghost use Rattle.plan_commands.specs.Halts.{IfBadInput};
 
 use crate::ending::Halt;
-use crate::reply_text::{
-    line_of_certificate_fault, line_of_fault, line_of_tree_fault, two_word_line,
-};
+use crate::reply_text::{line_of_certificate_fault, line_of_fault, two_word_line};
 use certificate::{Certificate, read_certificate};
 use hold_limits::Task;
 use load_io::{Shelf, ShelfFault};
@@ -95,7 +93,7 @@ fn trees_of(alloc: Global, task: &Task, bytes: &[u8]) -> Result<TreeCertificate,
 {
     match read_trees(alloc, task, bytes) {
         Ok(certificate) => Ok(certificate),
-        Err(fault) => Err(Halt::BadInput(line_of_tree_fault(alloc, fault)?)),
+        Err(fault) => Err(Halt::BadInput(line_of_certificate_fault(alloc, fault)?)),
     }
 }
 

@@ -2,7 +2,7 @@
 
 ghost use Rattle.std.specs.Prelude.{◌≡◌, ◌++◌, ◌∷◌, [], IfOk, OnOk};
 ghost use Rattle.plan_text.specs.PlanText.{one_line};
-ghost use Rattle.plan_commands.specs.ReplyText.{hold_fault_number, task_fault_number, input_text, number_line, good_text, rejected_at_text, rejected_text, undecided_text, IsFaultLine, IsCertificateFaultLine, IsTreeFaultLine, IsTreeRejectionLine};
+ghost use Rattle.plan_commands.specs.ReplyText.{hold_fault_number, task_fault_number, input_text, number_line, good_text, rejected_at_text, rejected_text, undecided_text, IsFaultLine, IsCertificateFaultLine, IsTreeRejectionLine};
 ghost use Rattle.text_lines.specs.Lines.{text_of};
 ghost use Rattle.certificate.specs.CertificateText.{path_line};
 
@@ -13,7 +13,6 @@ use hold_limits::{HoldFault, Path, Task, TaskFault};
 use problem_text::TextFault;
 use std::alloc::Global;
 use telex::Builder;
-use tree_certificate::TreeFault;
 use tree_checker::TreeRejection;
 
 /// A line of one word.
@@ -110,18 +109,6 @@ pub fn line_of_certificate_fault(alloc: Global, fault: CertFault) -> Result<Vec<
         CertFault::Line(number) => input_line(alloc, b"LINE", number as u64),
         CertFault::NoEnd => two_word_line(alloc, b"INPUT", b"END"),
         CertFault::NoMemory => Err(NoMemory),
-    }
-}
-
-/// The line that reports a fault of the text of a certificate of trees.
-pub fn line_of_tree_fault(alloc: Global, fault: TreeFault) -> Result<Vec<u8>, NoMemory>
-    ensures { IfOk result (λ text. IsTreeFaultLine fault text.items) }
-{
-    match fault {
-        TreeFault::NoStart => two_word_line(alloc, b"INPUT", b"START"),
-        TreeFault::Line(number) => input_line(alloc, b"LINE", number as u64),
-        TreeFault::NoEnd => two_word_line(alloc, b"INPUT", b"END"),
-        TreeFault::NoMemory => Err(NoMemory),
     }
 }
 

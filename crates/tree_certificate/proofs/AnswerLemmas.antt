@@ -1,7 +1,7 @@
 -- each text has one fault at most, and a certificate or a fault
 use Rattle.std.proofs.Common.{◌≡◌, ◌≢◌, ⊎_elim, ◌⊎◌, inl, inr, ℕ, ◌+◌, true, false, eqb, ◌++◌, ◌∷◌, List, [], length, refl, sym, ◌∙◌, ap, subst, All}
 use Rattle.std.specs.Prelude.{bytes_eq}
-use Rattle.std.proofs.lemmas.Bool.{cases_Bool, eqb-true, true≢false}
+use Rattle.std.proofs.lemmas.Bool.{cases_Bool, true≢false}
 use Rattle.std.proofs.lemmas.Slice.Eq.{bytes_eq-Decides}
 use Rattle.std.proofs.lemmas.List.{append_assoc, append-nil}
 use Rattle.std.proofs.lemmas.List.Elements.{All-head, All-tail, All-nil, All-cons, All-same, All-append}
@@ -14,15 +14,18 @@ use Rattle.text_lines.specs.declared.fault.LineFault.{LineFault}
 use Rattle.text_lines.specs.declared.fault.LineFault.TheVariants as fault
 use Rattle.text_lines.proofs.CutLemmas.{split_once_again, has_mark}
 use Rattle.text_lines.proofs.SectionLemmas.{text_of-append}
-use Rattle.tree_certificate.specs.TreeText.{start_line, IsEarlier, StartsAfter, Spells}
-use Rattle.tree_certificate.specs.Refusals.{AreTreeLines, IsRefused, tree_fault}
+use Rattle.certificate.specs.Starts.{IsEarlier, StartsAfter}
+use Rattle.tree_certificate.specs.TreeText.{start_line, Spells}
+use Rattle.certificate.specs.Refusals.{cert_fault}
+use Rattle.tree_certificate.specs.Refusals.{AreTreeLines, IsRefused}
 use Rattle.tree_certificate.specs.Refusals.IsRefused.{no_start, wrong_lines}
 use Rattle.tree_certificate.specs.Listed.{ListedTrees}
-use Rattle.tree_certificate.specs.declared.fault.TreeFault.{TreeFault}
-use Rattle.tree_certificate.specs.declared.fault.TreeFault.TheVariants.{NoStart, Line, NoEnd, NoMemory}
+use Rattle.certificate.specs.declared.fault.CertFault.{CertFault}
+use Rattle.certificate.specs.declared.fault.CertFault.TheVariants.{NoStart, Line, NoEnd, NoMemory}
 use Rattle.certificate.proofs.PathLemmas.{AreNames}
-use Rattle.text_lines.proofs.TextCuts.{AreLines, compare, IsCut, cut_text}
-use Rattle.tree_certificate.proofs.StartLemmas.{starts_once, no_start_starts}
+use Rattle.text_lines.proofs.TextCuts.{AreLines, compare, cut_text}
+use Rattle.certificate.proofs.StartLemmas.{starts_once, no_start_starts}
+use Rattle.tree_certificate.proofs.ReadLemmas.{start_plain}
 use Rattle.tree_certificate.proofs.TreeLines.{begin_lines, ends_once}
 use Rattle.tree_certificate.proofs.TreeGrammar.{some_lines}
 
@@ -126,28 +129,28 @@ caused_once ps names text number a b p q =
     let at_rest : Of p.lines p.rest = subst (λ (rest : List ℕ). Of p.lines rest) (sym same.1) at_lines in
     cause_once ps p.lines p.rest number a b p.cause at_rest
 
-fails_once : (ps : List Position) → AreNames ps → (text : List ℕ) (number : ℕ) (a b : LineFault) → Fails (AreTreeLines ps) text number a → Fails (AreTreeLines ps) text number b → (tree_fault a ≡ NoMemory) ⊎ ((tree_fault b ≡ NoMemory) ⊎ (a ≡ b))
+fails_once : (ps : List Position) → AreNames ps → (text : List ℕ) (number : ℕ) (a b : LineFault) → Fails (AreTreeLines ps) text number a → Fails (AreTreeLines ps) text number b → (cert_fault a ≡ NoMemory) ⊎ ((cert_fault b ≡ NoMemory) ⊎ (a ≡ b))
 fails_once ps names text number a b p q =
     ⊎_elim
-    (λ (e : a ≡ fault.NoMemory). inl (ap tree_fault e))
+    (λ (e : a ≡ fault.NoMemory). inl (ap cert_fault e))
     (λ (x : HasCause ps text number a). inr (⊎_elim
-    (λ (e : b ≡ fault.NoMemory). inl (ap tree_fault e))
+    (λ (e : b ≡ fault.NoMemory). inl (ap cert_fault e))
     (λ (y : HasCause ps text number b). inr (caused_once ps names text number a b x y))
     (cause_of ps names text number b q)))
     (cause_of ps names text number a p)
 
-pub refused_once : (ps : List Position) → AreNames ps → (text : List ℕ) (a b : TreeFault) → IsRefused ps text a → IsRefused ps text b → a ≢ NoMemory → b ≢ NoMemory → a ≡ b
+pub refused_once : (ps : List Position) → AreNames ps → (text : List ℕ) (a b : CertFault) → IsRefused ps text a → IsRefused ps text b → a ≢ NoMemory → b ≢ NoMemory → a ≡ b
 refused_once ps names text _ _ (no_start none) (no_start none') not_a not_b = refl
-refused_once ps names text _ _ (no_start none) (wrong_lines before rest f starts fails) not_a not_b = absurd (no_start_starts text before rest none starts)
-refused_once ps names text _ _ (wrong_lines before rest f starts fails) (no_start none) not_a not_b = absurd (no_start_starts text before rest none starts)
+refused_once ps names text _ _ (no_start none) (wrong_lines before rest f starts fails) not_a not_b = absurd (no_start_starts start_line start_plain text before rest none starts)
+refused_once ps names text _ _ (wrong_lines before rest f starts fails) (no_start none) not_a not_b = absurd (no_start_starts start_line start_plain text before rest none starts)
 refused_once ps names text _ _ (wrong_lines before rest f starts fails) (wrong_lines before' rest' f' starts' fails') not_a not_b =
-    let same = starts_once before before' text rest rest' starts starts' in
+    let same = starts_once start_line start_plain before before' text rest rest' starts starts' in
     let At : Lines → List ℕ → Type 0 = λ lines t. Fails (AreTreeLines ps) t (length lines + 2) f' in
     let at_rest : At before' rest = subst (λ (t : List ℕ). At before' t) (sym same.1) fails' in
     let at_both : At before rest = subst (λ (lines : Lines). At lines rest) (sym same.0) at_rest in
     ⊎_elim
-    (λ (e : tree_fault f ≡ NoMemory). absurd (not_a e))
-    (λ (r : (tree_fault f' ≡ NoMemory) ⊎ (f ≡ f')). ⊎_elim (λ (e : tree_fault f' ≡ NoMemory). absurd (not_b e)) (λ (e : f ≡ f'). ap tree_fault e) r)
+    (λ (e : cert_fault f ≡ NoMemory). absurd (not_a e))
+    (λ (r : (cert_fault f' ≡ NoMemory) ⊎ (f ≡ f')). ⊎_elim (λ (e : cert_fault f' ≡ NoMemory). absurd (not_b e)) (λ (e : f ≡ f'). ap cert_fault e) r)
     (fails_once ps names rest (length before + 2) f f' fails at_both)
 
 -- ---- a certificate or a fault
@@ -156,7 +159,7 @@ abbrev HasNoCertificate : List Position → List ℕ → Type 0
 HasNoCertificate ps text = (c : ListedTrees) → Spells ps text c → ⊥
 
 abbrev HasNoFault : List Position → List ℕ → Type 0
-HasNoFault ps text = (f : TreeFault) → IsRefused ps text f → f ≡ NoMemory
+HasNoFault ps text = (f : CertFault) → IsRefused ps text f → f ≡ NoMemory
 
 -- no certificate goes on with these lines and the next one of the others
 abbrev NoneGoesOn : List Position → Lines → Lines → Type 0
@@ -171,14 +174,14 @@ has_longest ps lines (line ∷ more) begins none =
     let halt : Begins (AreTreeLines ps) (lines ++ line ∷ []) → ⊥ = λ longer. has_longest ps (lines ++ line ∷ []) more longer (subst (HasNoLongest ps) (sym (append_assoc lines (line ∷ []) more)) none) in
     none lines (line ∷ more) refl begins (λ other after e longer. let same : other ≡ line = cc in halt (subst (λ (x : List ℕ). Begins (AreTreeLines ps) (lines ++ x ∷ [])) same longer))
 
-of_lines : (ps : List Position) (text : List ℕ) (before lines : Lines) (rest start : List ℕ) → HasNoCertificate ps text → HasNoFault ps text → StartsAfter before text start → start ≡ text_of lines ++ rest → AreTreeLines ps lines → ⊥
+of_lines : (ps : List Position) (text : List ℕ) (before lines : Lines) (rest start : List ℕ) → HasNoCertificate ps text → HasNoFault ps text → StartsAfter start_line before text start → start ≡ text_of lines ++ rest → AreTreeLines ps lines → ⊥
 of_lines ps text before lines [] start none faults starts e are =
     let whole : start ≡ text_of lines = e ∙ append-nil (text_of lines) in
-    none are.said (record { before = before; starts = subst (StartsAfter before text) (whole ∙ ap text_of are.are) starts; spelled = are.spelled })
+    none are.said (record { before = before; starts = subst (StartsAfter start_line before text) (whole ∙ ap text_of are.are) starts; spelled = are.spelled })
 of_lines ps text before lines (byte ∷ rest) start none faults starts e are =
     let same = faults (Line (length lines + (length before + 2))) (wrong_lines before start (fault.Line (length lines + (length before + 2))) starts (more_bytes lines byte rest e are)) in absurd (cc)
 
-of_longest : (ps : List Position) (text : List ℕ) (before lines more : Lines) (rest start : List ℕ) → HasNoCertificate ps text → HasNoFault ps text → StartsAfter before text start → start ≡ text_of (lines ++ more) ++ rest → AreLines more → Avoids 10 rest → Begins (AreTreeLines ps) lines → NoneGoesOn ps lines more → ⊥
+of_longest : (ps : List Position) (text : List ℕ) (before lines more : Lines) (rest start : List ℕ) → HasNoCertificate ps text → HasNoFault ps text → StartsAfter start_line before text start → start ≡ text_of (lines ++ more) ++ rest → AreLines more → Avoids 10 rest → Begins (AreTreeLines ps) lines → NoneGoesOn ps lines more → ⊥
 of_longest ps text before lines [] rest start none faults starts e clear end begins halt =
     let whole : start ≡ text_of lines ++ rest = e ∙ ap (λ (xs : Lines). text_of xs ++ rest) (append-nil lines) in
     let same = faults NoEnd (wrong_lines before start fault.NoEnd starts (early_end lines rest whole end begins (of_lines ps text before lines rest start none faults starts whole))) in
@@ -195,13 +198,13 @@ after : (lines more : Lines) → AreLines (lines ++ more) → AreLines more
 after [] more clear = clear
 after (line ∷ lines) more clear = after lines more (All-tail (Avoids 10) line (lines ++ more) clear)
 
-of_start : (ps : List Position) (text : List ℕ) (before more : Lines) (rest start : List ℕ) → HasNoCertificate ps text → HasNoFault ps text → StartsAfter before text start → start ≡ text_of more ++ rest → AreLines more → Avoids 10 rest → ⊥
+of_start : (ps : List Position) (text : List ℕ) (before more : Lines) (rest start : List ℕ) → HasNoCertificate ps text → HasNoFault ps text → StartsAfter start_line before text start → start ≡ text_of more ++ rest → AreLines more → Avoids 10 rest → ⊥
 of_start ps text before more rest start none faults starts e clear end =
     has_longest ps [] more (some_lines ps) (λ lines others g begins halt.
     of_longest ps text before lines others rest start none faults starts (e ∙ ap (λ (xs : Lines). text_of xs ++ rest) g) (after lines others (subst AreLines g clear)) end begins halt)
 
 -- the text's lines, one after another: these were skipped
-pass : (ps : List Position) (text : List ℕ) (before more : Lines) (rest : List ℕ) → HasNoCertificate ps text → HasNoFault ps text → All IsEarlier before → text ≡ text_of before ++ (text_of more ++ rest) → AreLines more → Avoids 10 rest → ⊥
+pass : (ps : List Position) (text : List ℕ) (before more : Lines) (rest : List ℕ) → HasNoCertificate ps text → HasNoFault ps text → All (IsEarlier start_line) before → text ≡ text_of before ++ (text_of more ++ rest) → AreLines more → Avoids 10 rest → ⊥
 pass ps text before [] rest none faults earlier e clear end =
     let same = faults NoStart (no_start (record { lines = before; rest = rest; earlier = earlier; end = end; is = e })) in absurd (cc)
 pass ps text before (line ∷ more) rest none faults earlier e clear end =
@@ -211,8 +214,8 @@ pass ps text before (line ∷ more) rest none faults earlier e clear end =
     let is = (bytes_eq-Decides line start_line).0 same in
     of_start ps text before more rest (text_of more ++ rest) none faults (record { earlier = earlier; is = whole ∙ ap (λ l. text_of before ++ (l ++ 10 ∷ (text_of more ++ rest))) is }) refl (All-tail (Avoids 10) line more clear) end)
     (λ (other : bytes_eq line start_line ≡ false).
-    let one : IsEarlier line = record { whole = All-head (Avoids 10) line more clear; other = λ g. true≢false (sym ((bytes_eq-Decides line start_line).1 g) ∙ other) } in
-    let longer = All-append IsEarlier before (line ∷ []) earlier (All-cons IsEarlier line [] one (All-nil IsEarlier)) in
+    let one : IsEarlier start_line line = record { whole = All-head (Avoids 10) line more clear; other = λ g. true≢false (sym ((bytes_eq-Decides line start_line).1 g) ∙ other) } in
+    let longer = All-append (IsEarlier start_line) before (line ∷ []) earlier (All-cons (IsEarlier start_line) line [] one (All-nil (IsEarlier start_line))) in
     let lines : text ≡ text_of (before ++ line ∷ []) ++ (text_of more ++ rest) =
     whole ∙ ap (λ t. text_of before ++ t) (sym (append_assoc line (10 ∷ []) (text_of more ++ rest))) ∙ sym (append_assoc (text_of before) (line ++ 10 ∷ []) (text_of more ++ rest))
     ∙ ap (λ t. t ++ (text_of more ++ rest)) (sym (text_of-append before (line ∷ []))) in
@@ -222,4 +225,4 @@ pass ps text before (line ∷ more) rest none faults earlier e clear end =
 pub some_answer : (ps : List Position) (text : List ℕ) → HasNoCertificate ps text → HasNoFault ps text → ⊥
 some_answer ps text none faults =
     let cut = cut_text text in
-    pass ps text [] cut.lines cut.rest none faults (All-nil IsEarlier) cut.is cut.clear cut.end
+    pass ps text [] cut.lines cut.rest none faults (All-nil (IsEarlier start_line)) cut.is cut.clear cut.end

@@ -2,7 +2,6 @@ pub mod WordForms
 pub mod PriceLemmas
 pub mod SetWords
 pub mod LineLemmas
-pub mod StartLemmas
 pub mod TreeGrammar
 pub mod TreeLines
 pub mod ReadLemmas

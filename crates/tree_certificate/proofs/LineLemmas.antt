@@ -1,5 +1,5 @@
 -- the lines of a certificate of trees: each is read in one way only, and they differ from one another
-use Rattle.std.proofs.Common.{◌≡◌, ◌≢◌, ℕ, ◌<◌, eqb, false, ◌++◌, ◌∷◌, List, [], get_or, map, Option, Some, None, IfNone, refl, sym, ◌∙◌, ap, arith, All, codes, lit<}
+use Rattle.std.proofs.Common.{◌≡◌, ◌≢◌, ℕ, ◌<◌, ◌++◌, ◌∷◌, List, [], get_or, map, Option, Some, None, IfNone, refl, sym, ◌∙◌, ap, arith, All, codes, lit<}
 use Rattle.std.proofs.lemmas.List.{append_assoc, append_cancel_left}
 use Rattle.std.proofs.lemmas.List.Elements.{All-head, All-tail, All-nil, All-cons, All-append, All-map, All-weaker}
 use Rattle.mass_units.specs.Spelling.{number_text, IsNumber}
@@ -7,7 +7,6 @@ use Rattle.mass_units.proofs.SpellingLemmas.{number_text-avoids, number_text-inj
 use Rattle.hold_parts.specs.declared.parts.Position.{Position}
 use Rattle.hold_limits.specs.Layout.{name_at}
 use Rattle.text_lines.specs.Cuts.{Avoids, IsCutAt}
-use Rattle.text_lines.specs.Names.{IsNamed}
 use Rattle.text_lines.proofs.CutLemmas.{split_once_again}
 use Rattle.text_lines.specs.WordRuns.{run_text, name_text}
 use Rattle.text_lines.proofs.RunOfLines.{Stops, section_once}

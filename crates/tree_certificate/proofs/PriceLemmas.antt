@@ -1,5 +1,5 @@
 -- runs of prices, and lines of prices, are read in one way only
-use Rattle.std.proofs.Common.{◌≡◌, ◌≢◌, ℕ, ◌+◌, ◌<◌, ◌^◌, eqb, false, ◌++◌, ◌∷◌, List, [], get_or, length, refl, sym, ◌∙◌, ap, subst, arith, All, codes, lit<}
+use Rattle.std.proofs.Common.{◌≡◌, ◌≢◌, ℕ, eqb, false, ◌++◌, ◌∷◌, List, [], get_or, refl, sym, ◌∙◌, ap, subst, arith, codes, lit<}
 use Rattle.std.proofs.lemmas.List.{append_assoc, append-nil, append_cancel_left}
 use Rattle.std.proofs.lemmas.List.Elements.{All-head, All-tail, All-nil, All-cons}
 use Rattle.mass_units.specs.Spelling.{number_text, IsNumber}

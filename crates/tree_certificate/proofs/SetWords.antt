@@ -1,14 +1,13 @@
 -- lines that name the positions of a set
-use Rattle.std.proofs.Common.{◌≡◌, ◌≢◌, ⊎_elim, ℕ, ◌+◌, ◌<◌, ◌≤◌, ◌^◌, Bool, true, false, ◌||◌, ◌==◌, eqb, ◌++◌, ◌∷◌, List, [], length, refl, sym, ◌∙◌, ap, arith, All, Option, Some, None, IfSome, IfNone}
+use Rattle.std.proofs.Common.{◌≡◌, ◌≢◌, ⊎_elim, ℕ, ◌<◌, ◌≤◌, ◌^◌, true, false, ◌||◌, ◌==◌, eqb, ◌++◌, ◌∷◌, List, [], length, sym, ◌∙◌, ap, arith, All, Option, Some, None, IfSome, IfNone}
 use Rattle.std.proofs.lemmas.Bool.{false≢true}
 use Rattle.std.proofs.lemmas.List.{append-nil}
 use Rattle.std.proofs.lemmas.List.Elements.{All-head, All-nil, All-push, All-same}
 use Rattle.hold_parts.specs.declared.parts.Position.{Position}
-use Rattle.hold_limits.specs.Layout.{name_at}
 use Rattle.text_lines.specs.Cuts.{Avoids, IsCutAt}
 use Rattle.text_lines.specs.Names.{IsNamed}
 use Rattle.text_lines.specs.WordRuns.{run_text, name_text}
-use Rattle.text_lines.proofs.RunLemmas.{run_text-push, run_again, no_more, all_read, run_once}
+use Rattle.text_lines.proofs.RunLemmas.{run_text-push, run_again, no_more, run_once}
 use Rattle.text_lines.proofs.WordLemmas.{avoids-append}
 use Rattle.certificate.specs.CertificateText.{path_line}
 use Rattle.certificate.proofs.PathLemmas.{AreClear, names_are_read, names_avoid, names_begin, path_line-is}

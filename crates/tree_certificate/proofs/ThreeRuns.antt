@@ -1,5 +1,5 @@
 -- the reader of three runs of prices
-use Rattle.std.proofs.Common.{◌≡◌, ◌≢◌, ℕ, ◌++◌, ◌∷◌, List, [], length, refl, sym, ◌∙◌, ap, arith, codes, Result, Ok, Err, Option, Some, None, IfOk, IfSome, IfNone}
+use Rattle.std.proofs.Common.{◌≡◌, ℕ, ◌++◌, ◌∷◌, List, [], length, refl, sym, ◌∙◌, ap, arith, codes, Result, Ok, Err, Option, Some, None, IfOk, IfSome, IfNone}
 use Rattle.std.proofs.lemmas.List.{append-nil}
 use Rattle.mass_units.specs.Spelling.{number_text, IsNumber}
 use Rattle.hold_parts.specs.declared.parts.Position.{Position}

@@ -1,6 +1,5 @@
 -- where the reader stops, the lines are not those of a certificate of trees
-use Rattle.std.proofs.Common.{◌≡◌, ℕ, ◌+◌, ◌<◌, ◌++◌, ◌∷◌, List, [], length, map, refl, sym, ◌∙◌, ap, subst, arith, All, codes, lit<}
-use Rattle.std.proofs.lemmas.List.{append_assoc, length-append, length-map}
+use Rattle.std.proofs.Common.{◌≡◌, ℕ, ◌+◌, ◌++◌, ◌∷◌, List, [], length, map, refl, sym, ◌∙◌, ap, subst, arith, All, codes, lit<}
 use Rattle.std.proofs.lemmas.List.Elements.{All-nil}
 use Rattle.hold_parts.specs.declared.parts.Position.{Position}
 use Rattle.text_lines.specs.Cuts.{Avoids}
@@ -12,7 +11,7 @@ use Rattle.text_lines.specs.declared.fault.LineFault.{LineFault}
 use Rattle.text_lines.specs.declared.fault.LineFault.TheVariants.{Line}
 use Rattle.text_lines.proofs.SectionLemmas.{text_of-append}
 use Rattle.text_lines.proofs.RunOfLines.{Stops}
-use Rattle.text_lines.proofs.GrammarLemmas.{HasFirst, IsStep, IsReadOnce, fails_earlier, fails_before_run, fails_before_line, fails_at_line}
+use Rattle.text_lines.proofs.GrammarLemmas.{HasFirst, IsStep, fails_earlier, fails_before_run, fails_before_line, fails_at_line}
 use Rattle.certificate.specs.CertificateText.{claim_line, IsSpelledClaim}
 use Rattle.certificate.specs.Reading.{IsClaimLine}
 use Rattle.certificate.specs.declared.parts.Claim.{Claim}

@@ -1,5 +1,5 @@
 -- the lines of a certificate of trees after its first say one certificate, and go on to no other
-use Rattle.std.proofs.Common.{◌≡◌, ℕ, eqb, false, ◌++◌, ◌∷◌, List, [], map, refl, sym, ◌∙◌, ap, subst, codes, All, lit<}
+use Rattle.std.proofs.Common.{◌≡◌, ℕ, eqb, false, ◌++◌, ◌∷◌, List, [], map, refl, sym, ◌∙◌, ap, subst, codes, lit<}
 use Rattle.std.proofs.lemmas.List.{append_assoc, append-nil}
 use Rattle.std.proofs.lemmas.List.Elements.{All-head, All-tail, All-nil, All-cons, All-append, All-map, All-weaker, All-same}
 use Rattle.hold_parts.specs.declared.parts.Position.{Position}

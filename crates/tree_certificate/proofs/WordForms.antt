@@ -1,5 +1,5 @@
 -- words of what prices are of
-use Rattle.std.proofs.Common.{◌≡◌, ◌≢◌, ⊎_elim, ℕ, ◌-◌, ◌^◌, ◌<◌, ◌≤◌, min, Option, None, Some, IfNone, ◌++◌, ◌∷◌, List, [], refl, sym, ◌∙◌, ap, arith, All, codes, lit<}
+use Rattle.std.proofs.Common.{◌≡◌, ◌≢◌, ⊎_elim, ℕ, ◌-◌, ◌^◌, ◌<◌, ◌≤◌, min, Option, None, Some, IfNone, ◌++◌, ◌∷◌, List, sym, ◌∙◌, ap, arith, All, lit<}
 use Rattle.std.proofs.lemmas.List.{append_cancel_left}
 use Rattle.std.proofs.lemmas.Option.{none-some}
 use Rattle.std.proofs.lemmas.List.Elements.{All-head}
@@ -8,7 +8,7 @@ use Rattle.std.specs.Int.{IsInRange}
 use Rattle.std.specs.Str.Parse.{AllDigits}
 use Rattle.mass_units.specs.Spelling.{number_text, IsNumber}
 use Rattle.mass_units.proofs.SpellingLemmas.{number_text-avoids, number_text-injective, AllDigits-number_text}
-use Rattle.hold_parts.specs.Spellings.{IsCapital, IsDigit, IsCapitalOrDigit, IsName}
+use Rattle.hold_parts.specs.Spellings.{IsCapital, IsDigit, IsCapitalOrDigit}
 use Rattle.hold_parts.specs.declared.parts.Position.{Position}
 use Rattle.hold_limits.specs.Layout.{name_at}
 use Rattle.text_lines.specs.Cuts.{Avoids}

@@ -10,7 +10,8 @@ use Rattle.certificate.specs.CertificateText.{claim_line}
 use Rattle.tree_certificate.specs.declared.parts.PriceList.{PriceList}
 use Rattle.tree_certificate.specs.declared.parts.Sibling.{Sibling}
 use Rattle.tree_certificate.specs.Listed.{ListedPrices, ListedSibling, ListedTrees, listed_prices, listed_sibling}
-use Rattle.tree_certificate.specs.TreeText.{start_line, clique_line, price_line, operation_line, root_line, least_line, sibling_lines, tree_lines, tree_text, IsSpelled, IsEarlier, Spells}
+use Rattle.certificate.specs.Starts.{IsEarlier}
+use Rattle.tree_certificate.specs.TreeText.{start_line, clique_line, price_line, operation_line, root_line, least_line, sibling_lines, tree_text, IsSpelled, Spells}
 use Rattle.tree_certificate.proofs.SectionSteps.{sibling_lines-append}
 
 -- A run of which the first entries are written --------------------------------------------------
@@ -103,5 +104,5 @@ text_built ps c start n1 n2 n3 n4 n5 n6 n7 n8 e1 e2 e3 e4 e5 e6 e7 e8 =
     (with_lines n5 (map (operation_line ps) c.root) from7 n6 n8 e6
     (with_lines n6 (sibling_lines ps c.siblings) end n7 n8 e7 e8))))))
 
-pub written_spells : (ps : List Position) (c : ListedTrees) → IsSpelled ps c → (text : List ℕ) → text ≡ tree_text ps c → (before : List (List ℕ)) → All IsEarlier before → Spells ps (text_of before ++ text) c
+pub written_spells : (ps : List Position) (c : ListedTrees) → IsSpelled ps c → (text : List ℕ) → text ≡ tree_text ps c → (before : List (List ℕ)) → All (IsEarlier start_line) before → Spells ps (text_of before ++ text) c
 written_spells ps c s text e before earlier = record { before = before; starts = record { earlier = earlier; is = ap (λ t. text_of before ++ t) e }; spelled = s }

@@ -1,14 +1,14 @@
 -- the text of a certificate of trees, line by line
-use Rattle.std.specs.Prelude.{◌≡◌, ◌≢◌, ℕ, ◌<◌, ◌^◌, List, [], ◌∷◌, ◌++◌, length, map, All, codes}
+use Rattle.std.specs.Prelude.{ℕ, ◌<◌, ◌^◌, List, [], ◌∷◌, ◌++◌, map, All, codes}
 use Rattle.mass_units.specs.Spelling.{number_text, IsNumber}
 use Rattle.hold_parts.specs.declared.parts.Position.{Position}
 use Rattle.hold_limits.specs.Layout.{name_at}
-use Rattle.text_lines.specs.Cuts.{Avoids}
 use Rattle.text_lines.specs.Lines.{line_of, text_of}
 use Rattle.text_lines.specs.Names.{IsNamed}
 use Rattle.text_lines.specs.WordRuns.{run_text}
 use Rattle.position_set.specs.declared.set.PositionSet.{PositionSet}
 use Rattle.position_set.specs.Sets.{members}
+use Rattle.certificate.specs.Starts.{StartsAfter}
 use Rattle.certificate.specs.CertificateText.{claim_line, IsSpelledClaim}
 use Rattle.certificate.specs.declared.parts.Claim.{Claim}
 use Rattle.certificate.specs.declared.parts.Claim.TheVariants.{Best, NoneFits}
@@ -125,18 +125,8 @@ pub record IsSpelled (positions : List Position) (c : ListedTrees) : Type 0 wher
 
 -- The text --------------------------------------------------------------------------------------
 
--- a line that may stand before a certificate of trees
-pub record IsEarlier (line : List ℕ) : Type 0 where
-  pub whole : Avoids 10 line
-  pub other : line ≢ start_line
-
--- the first line `CERTIFICATE 3` of the text stands between these lines and this rest
-pub record StartsAfter (before : List (List ℕ)) (text rest : List ℕ) : Type 0 where
-  pub earlier : All IsEarlier before
-  pub is : text ≡ text_of before ++ (start_line ++ 10 ∷ rest)
-
 -- the text spells the certificate: its lines are the last ones of the text, and each part of it can be spelled
 pub record Spells (positions : List Position) (text : List ℕ) (c : ListedTrees) : Type 0 where
   pub before : List (List ℕ)
-  pub starts : StartsAfter before text (text_of (tree_lines positions c))
+  pub starts : StartsAfter start_line before text (text_of (tree_lines positions c))
   pub spelled : IsSpelled positions c

@@ -25,7 +25,6 @@
 //! certificate.
 #![tactic(auto)]
 
-mod fault;
 mod laws;
 mod line_readers;
 mod line_writers;
@@ -34,7 +33,6 @@ mod price_readers;
 mod reader;
 mod writer;
 
-pub use fault::TreeFault;
 pub use laws::tree_reading_laws;
 pub use parts::{End, Operation, Price, PriceList, Sibling, TreeCertificate};
 pub use reader::read_trees;

@@ -7,15 +7,14 @@ ghost use Rattle.text_lines.specs.Grammar.{Fails};
 ghost use Rattle.text_lines.specs.Lines.{text_of};
 ghost use Rattle.text_lines.specs.Sections.{IsSection};
 ghost use Rattle.tree_certificate.specs.Listed.{ListedTrees, listed_prices, listed_sibling, listed_trees};
-ghost use Rattle.tree_certificate.specs.TreeText.{least_line, price_line, tree_lines, IsSpelled, IsSpelledLeast, IsSpelledPriceList, StartsAfter, Spells};
-ghost use Rattle.tree_certificate.specs.Refusals.{AreTreeLines, HasNoStart, IsRefused};
+ghost use Rattle.tree_certificate.specs.TreeText.{least_line, price_line, tree_lines, IsSpelled, IsSpelledLeast, IsSpelledPriceList, Spells};
+ghost use Rattle.tree_certificate.specs.Refusals.{AreTreeLines, IsRefused};
 ghost use Rattle.tree_certificate.specs.Reading.{HasNoLeastAhead, IsSibling, AreSiblings};
 
-use crate::fault::TreeFault;
 use crate::line_readers::{CliqueLines, OperationLines, read_least};
 use crate::parts::{PriceList, Sibling, TreeCertificate, root_word};
 use crate::price_readers::read_price_list;
-use certificate::{NameTable, next_claim};
+use certificate::{CertFault, NameTable, after_start, next_claim};
 use desk_base::NoMemory;
 use hold_limits::{Position, Task};
 use std::alloc::Global;
@@ -29,33 +28,17 @@ const START: &[u8] = b"CERTIFICATE 3";
 ///
 /// A name that no position of the hold has makes its line wrong, and so do positions of a set that do not stand from nose
 /// to tail. Whether what the lines say holds is for the checker. Time and memory are linear in the length of the text.
-pub fn read_trees(alloc: Global, task: &Task, text: &[u8]) -> Result<TreeCertificate, TreeFault>
+pub fn read_trees(alloc: Global, task: &Task, text: &[u8]) -> Result<TreeCertificate, CertFault>
     ensures read { IfOk result (λ got. Spells task.now.hold.positions text.now (listed_trees got)) }
     ensures refused { IfErr result (IsRefused task.now.hold.positions text.now) }
     ensures complete { (c : ListedTrees) → Spells task.now.hold.positions text.now c
-        → MatchResult result (λ got. listed_trees got ≡ c) (λ fault. fault ≡ TreeFault.NoMemory) }
+        → MatchResult result (λ got. listed_trees got ≡ c) (λ fault. fault ≡ CertFault.NoMemory) }
 {
     let positions = task.hold().named_positions();
-    let Some(mut lines) = after_start(text) else {
-        return Err(TreeFault::NoStart);
+    let Some(mut lines) = after_start(text, START) else {
+        return Err(CertFault::NoStart);
     };
     Ok(read_lines(alloc, positions, &mut lines)?)
-}
-
-/// The lines after the first line `CERTIFICATE 3`. None where there is no such line.
-fn after_start(text: &[u8]) -> Option<Lines<'_>>
-    ensures found { IfSome result (λ lines. (before : List (List ℕ)) × StartsAfter before text.now lines.rest.now
-        × (lines.number ≡ length before + 2)) }
-    ensures none { IfNone result (HasNoStart text.now) }
-{
-    let mut lines = Lines::new(text);
-    while let Some((line, after)) = lines.split_first() {
-        if line == START {
-            return Some(after);
-        }
-        lines = after;
-    }
-    None
 }
 
 /// The lists of prices on the next lines.

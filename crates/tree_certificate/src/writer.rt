@@ -3,7 +3,8 @@
 ghost use Rattle.std.specs.Prelude.{◌≡◌, ℕ, List, ◌++◌, All, IfOk, OnOk};
 ghost use Rattle.text_lines.specs.Lines.{text_of};
 ghost use Rattle.tree_certificate.specs.Listed.{listed_trees};
-ghost use Rattle.tree_certificate.specs.TreeText.{tree_text, IsEarlier, IsSpelled, Spells};
+ghost use Rattle.certificate.specs.Starts.{IsEarlier};
+ghost use Rattle.tree_certificate.specs.TreeText.{start_line, tree_text, IsSpelled, Spells};
 
 use crate::line_writers::{push_cliques, push_operations, push_price_lists, push_siblings};
 use crate::parts::{TreeCertificate, root_word};
@@ -43,7 +44,7 @@ pub fn write_trees(
 ) -> Result<Vec<u8>, NoMemory>
     ensures written { IfOk result (λ text. text.items ≡ tree_text task.now.hold.positions (listed_trees certificate.now)) }
     ensures read_back { IsSpelled task.now.hold.positions (listed_trees certificate.now)
-        → IfOk result (λ text. (before : List (List ℕ)) → All IsEarlier before
+        → IfOk result (λ text. (before : List (List ℕ)) → All (IsEarlier start_line) before
         → Spells task.now.hold.positions (text_of before ++ text.items) (listed_trees certificate.now)) }
 {
     let mut out = Builder::new(alloc);

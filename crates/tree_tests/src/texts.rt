@@ -1,10 +1,11 @@
 // A certificate, and edits of it.
 use crate::pass;
 use case_rows::{Subject, field, with_line};
+use certificate::CertFault;
 use problem_text::read_task;
 use std::alloc::Global;
 use std::test::Fail;
-use tree_certificate::{TreeFault, read_trees, write_trees};
+use tree_certificate::{read_trees, write_trees};
 
 // A task whose hold has the positions 11, 12, 41 and 42.
 const TASK: &[u8] = b"TASK 1
@@ -105,15 +106,15 @@ Line(16)|16|END";
     pass(&rt, rt.alloc(), &Refused, rows);
 }
 
-/// The first length of the certificate that is not refused for want of its start or its end.
+/// The first length of the certificate that is refused neither for a missing start nor for a missing end.
 fn first_other_length(alloc: Global) -> Result<Option<usize>, Fail> {
     let task = read_task(alloc, TASK)?;
     let text = CERTIFICATE.as_bytes();
     for length in 0..text.len() {
         let due = if length < 14 {
-            TreeFault::NoStart
+            CertFault::NoStart
         } else {
-            TreeFault::NoEnd
+            CertFault::NoEnd
         };
         if read_trees(alloc, &task, &text[..length]).err() != Some(due) {
             return Ok(Some(length));

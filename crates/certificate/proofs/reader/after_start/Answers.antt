@@ -2,7 +2,7 @@ use Rattle.std.proofs.Common.{◌++◌, ◌∷◌, [], ◌∙◌, ap, sym, arith
 use Rattle.std.proofs.lemmas.List.{length-append}
 use Rattle.std.proofs.lemmas.List.Elements.{All-push}
 use Rattle.text_lines.specs.Lines.{text_of}
-use Rattle.certificate.specs.CertificateText.{start_line, IsEarlier}
+use Rattle.certificate.specs.Starts.{IsEarlier}
 use Rattle.certificate.proofs.PathLemmas.{other_text}
 use Rattle.text_lines.proofs.TextCuts.{joined}
 use Rattle.certificate.proofs.reader.after_start.Goals as goal
@@ -14,7 +14,7 @@ loop-line-preserved c =
     let after = c.in-Some.after.rest.now in
     record {
       before = inv.before ++ line ∷ [];
-      earlier = All-push IsEarlier inv.before line inv.earlier (record { whole = c.in-Some.ensures.found.1; other = other_text line start_line c.eq.result c.if-eq.false c.eq.ensures });
+      earlier = All-push (IsEarlier c.args.start.now) inv.before line inv.earlier (record { whole = c.in-Some.ensures.found.1; other = other_text line c.args.start.now c.eq.result c.if-eq.false c.eq.ensures });
       is = inv.is ∙ ap (λ t. text_of inv.before ++ t) c.in-Some.ensures.found.0 ∙ sym (joined inv.before line after);
       counted = let more = length-append inv.before (line ∷ []) in let old = inv.counted in let now = c.in-Some.ensures.counted in omega (arith, more, old, now);
     }

@@ -4,12 +4,12 @@ use Rattle.hold_parts.specs.declared.parts.Position.{Position}
 use Rattle.hold_limits.specs.Layout.{Layout}
 use Rattle.text_lines.specs.Lines.{text_of}
 use Rattle.text_lines.specs.Grammar.{Fails}
-use Rattle.certificate.specs.CertificateText.{evidence_lines, IsSpelled}
+use Rattle.certificate.specs.CertificateText.{start_line, evidence_lines, IsSpelled}
 use Rattle.certificate.specs.Refusals.{AreEvidence, cert_fault}
 use Rattle.certificate.specs.Refusals.IsRefused.{no_start, wrong_lines}
 use Rattle.certificate.proofs.PathLemmas.{AreNames, clear_names}
 use Rattle.certificate.proofs.StartLemmas.{no_start_starts}
-use Rattle.certificate.proofs.ReadLemmas.{spelled_once, spelled_has_no_fault, evidence_spells}
+use Rattle.certificate.proofs.ReadLemmas.{start_plain, spelled_once, spelled_has_no_fault, evidence_spells}
 use Rattle.certificate.proofs.reader.read_certificate.Goals as goal
 
 pub returns-in_default-clause-refused : goal.returns-in_default-clause-refused
@@ -17,7 +17,7 @@ returns-in_default-clause-refused c = no_start c.in_default.ensures.none
 
 pub returns-in_default-clause-complete : goal.returns-in_default-clause-complete
 returns-in_default-clause-complete c =
-    λ said s. absurd (no_start_starts c.args.text.now s.before (text_of (evidence_lines c.args.task.now.hold.positions said)) c.in_default.ensures.none s.starts)
+    λ said s. absurd (no_start_starts start_line start_plain c.args.text.now s.before (text_of (evidence_lines c.args.task.now.hold.positions said)) c.in_default.ensures.none s.starts)
 
 pub returns-in_err-read_evidence-clause-refused : goal.returns-in_err-read_evidence-clause-refused
 returns-in_err-read_evidence-clause-refused c =
@@ -57,3 +57,13 @@ returns-clause-complete c =
     let read = subst Read same c.in_ok-read_evidence.ensures.read in
     let spells = evidence_spells ps text rest found.0 got found.1 read in
     λ said s. spelled_once ps (clear_names 32 ps (lit< tt) names) (clear_names 10 ps (lit< tt) names) text got said spells s
+
+pub returns-clause-read : goal.returns-clause-read
+returns-clause-read c =
+    let got = c.in_ok-read_evidence.field-0 in
+    let rest = c.in-Some.lines.rest.now in
+    let found = c.in-Some.ensures.found in
+    let Read : List Position → Type 0 = λ qs. IsSpelled qs got × (rest ≡ text_of (evidence_lines qs got)) in
+    let same = c.named_positions-positions.ensures.value ∙ ap (λ (h : Layout). h.positions) c.hold.ensures.value in
+    let read = subst Read same c.in_ok-read_evidence.ensures.read in
+    evidence_spells c.args.task.now.hold.positions c.args.text.now rest found.0 got found.1 read

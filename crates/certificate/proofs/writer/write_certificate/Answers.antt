@@ -1,4 +1,4 @@
-use Rattle.std.proofs.Common.{rules, ◌≡◌, ◌++◌, ap, ◌∙◌}
+use Rattle.std.proofs.Common.{◌++◌, ap, ◌∙◌}
 use Rattle.hold_limits.proofs.LawfulBounds.{hold-bounds}
 use Rattle.certificate.specs.CertificateText.{certificate_text}
 use Rattle.certificate.proofs.WriterLemmas.{written_spells}

@@ -1,6 +1,6 @@
 use Rattle.plan_commands.specs.TreeReply.IsTreeRefusal.{no_trees}
 use Rattle.plan_commands.proofs.files.trees_of.Goals as goal
 
-pub returns-in_ok-line_of_tree_fault-in-Err-clause-refused : goal.returns-in_ok-line_of_tree_fault-in-Err-clause-refused
-returns-in_ok-line_of_tree_fault-in-Err-clause-refused c =
-    no_trees c.in-Err.fault c.in_ok-line_of_tree_fault-in-Err.field-0.items c.requires c.in-Err.ensures.refused c.in_ok-line_of_tree_fault-in-Err.ensures
+pub returns-in_ok-line_of_certificate_fault-in-Err-clause-refused : goal.returns-in_ok-line_of_certificate_fault-in-Err-clause-refused
+returns-in_ok-line_of_certificate_fault-in-Err-clause-refused c =
+    no_trees c.in-Err.fault c.in_ok-line_of_certificate_fault-in-Err.field-0.items c.requires c.in-Err.ensures.refused c.in_ok-line_of_certificate_fault-in-Err.ensures
