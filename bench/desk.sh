@@ -28,7 +28,7 @@ fuel='{"taxi":200,"takeoff":9000,"trip":6000}'
 
 # The figures of the flight, whose edition is 7 behind them.
 figures() {
-    request POST /flights '{"flight":"XX210","day":"12","registration":"DAIAB","origin":"FRA","destination":"ARN"}'
+    request POST /flights '{"flight":"XX210","day":12,"registration":"DAIAB","origin":"FRA","destination":"ARN"}'
     request PUT "/flights/$key/dry/1" '{"mass":42000,"index":"50.00000","cockpit":2,"cabin":4}'
     request PUT "/flights/$key/fuel/2" "$fuel"
     request PUT "/flights/$key/limits/3" '{"takeoff":73500,"landing":66000}'

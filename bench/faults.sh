@@ -47,7 +47,7 @@ cd "$work/stores"
 request() { printf '%s %s HTTP/1.1\r\nContent-Length: %d\r\n\r\n%s' "$1" "$2" "${#3}" "$3"; }
 
 open_flight() {
-    request POST /flights "{\"flight\":\"$1\",\"day\":\"11\",\"registration\":\"DAIAB\",\"origin\":\"FRA\",\"destination\":\"ARN\"}"
+    request POST /flights "{\"flight\":\"$1\",\"day\":11,\"registration\":\"DAIAB\",\"origin\":\"FRA\",\"destination\":\"ARN\"}"
 }
 
 # One run on a store, with the requests of a file.

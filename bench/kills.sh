@@ -57,7 +57,7 @@ kept() {
 }
 
 for day in "${days[@]}"; do
-    request POST /flights "{\"flight\":\"XX210\",\"day\":\"$day\",\"registration\":\"DAIAB\",\"origin\":\"FRA\",\"destination\":\"ARN\"}"
+    request POST /flights "{\"flight\":\"XX210\",\"day\":$day,\"registration\":\"DAIAB\",\"origin\":\"FRA\",\"destination\":\"ARN\"}"
 done >"$work/input"
 run
 [ "$(grep -a -o 'HTTP/1.1 201' "$work/output" | wc -l)" = "$flights" ] || fail "the flights are not opened."

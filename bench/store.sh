@@ -33,7 +33,7 @@ run() {
 open_flights() {
     local n
     for ((n = 0; n < $1; n++)); do
-        request POST /flights "{\"flight\":\"XX$((1000 + n))\",\"day\":\"12\",\"registration\":\"DAIAB\",\"origin\":\"FRA\",\"destination\":\"ARN\"}"
+        request POST /flights "{\"flight\":\"XX$((1000 + n))\",\"day\":12,\"registration\":\"DAIAB\",\"origin\":\"FRA\",\"destination\":\"ARN\"}"
     done >"$work/opened"
     run opened
     sqlite3 "$work/flights.db" 'PRAGMA wal_checkpoint(truncate)' >/dev/null

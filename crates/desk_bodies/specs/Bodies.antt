@@ -8,20 +8,20 @@ use Rattle.trim.specs.declared.figures.Fuel.{Fuel}
 use Rattle.trim.specs.declared.figures.Regulated.{Regulated}
 use Rattle.trim.specs.declared.figures.LooseFigure.{LooseFigure}
 use Rattle.aircraft_file.specs.Spellings.{is_registration, is_name}
-use Rattle.flight_state.specs.Spellings.{is_flight_name, is_day, is_station}
+use Rattle.flight_state.specs.Spellings.{is_flight_name, is_station}
 use Rattle.flight_state.specs.declared.leg.Leg.{Leg}
 use Rattle.flight_state.specs.declared.change.Lmc.{Lmc}
 use Rattle.flight_state.specs.declared.change.Lmc.TheVariants.{Cabin, Loose}
-use Rattle.desk_bodies.specs.Values.{◌>>=◌, json_of, whole, signed, mass, text, index, object_of, at, each, triple}
+use Rattle.desk_bodies.specs.Values.{◌>>=◌, json_of, whole, signed, mass, day, text, index, object_of, at, each, triple}
 
 -- Opening a flight ------------------------------------------------------------------------------
 
--- `{"flight":"XX210","day":"12","registration":"DAIAB","origin":"FRA","destination":"ARN"}`
+-- `{"flight":"XX210","day":12,"registration":"DAIAB","origin":"FRA","destination":"ARN"}`
 abbrev pub leg_told : Data → Option Leg
 leg_told body = do
   members ← object_of 5 body
   flight ← at (codes "flight") (text is_flight_name) members
-  day ← at (codes "day") (text is_day) members
+  day ← at (codes "day") day members
   registration ← at (codes "registration") (text is_registration) members
   origin ← at (codes "origin") (text is_station) members
   destination ← at (codes "destination") (text is_station) members

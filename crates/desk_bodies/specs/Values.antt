@@ -6,6 +6,7 @@ use Rattle.serde_json.specs.Events.{members_len}
 use Rattle.serde_json.specs.Find.{as_array, as_i64, as_number, as_object, as_str, get_member}
 use Rattle.serde_json.specs.Read.{read}
 use Rattle.serde_json.specs.View.{members_view}
+use Rattle.mass_units.specs.Spelling.{two_digits}
 use Rattle.mass_units.specs.declared.Kg.{Kg}
 use Rattle.mass_units.specs.declared.Ticks.{Ticks}
 use Rattle.aircraft_file.specs.Spellings.{spelled, index_spelled}
@@ -39,6 +40,10 @@ signed most d = do
 -- whole kilograms, up to 1,000,000
 abbrev pub mass : ℕ → Data → Option Kg
 mass least d = option_map (λ n. record { 0 = n }) (whole least 1000000 d)
+
+-- a day of a month, 1 to 31, as the two digits of its number
+unfoldable pub day : Data → Option (List ℕ)
+day d = option_map two_digits (whole 1 31 d)
 
 -- a text that passes the test
 abbrev pub text : (List ℕ → Bool) → Data → Option (List ℕ)

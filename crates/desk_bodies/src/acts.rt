@@ -10,7 +10,7 @@ use crate::fault::BodyFault;
 use crate::json::read_json;
 use crate::object::Object;
 use aircraft_file::Registration;
-use flight_state::{Day, FlightName, Leg, Lmc, Station};
+use flight_state::{FlightName, Leg, Lmc, Station};
 use serde_json::Value;
 use std::alloc::Global;
 
@@ -33,7 +33,7 @@ fn leg_told(value: &Value) -> Option<Leg>
 {
     let body = Object::of(value, 5)?;
     let flight = FlightName::read(body.text("flight")?)?;
-    let day = Day::read(body.text("day")?)?;
+    let day = body.day("day")?;
     let registration = Registration::read(body.text("registration")?)?;
     let origin = Station::read(body.text("origin")?)?;
     let destination = Station::read(body.text("destination")?)?;

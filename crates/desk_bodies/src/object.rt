@@ -1,14 +1,18 @@
 //! Objects of JSON and their members.
 
-ghost use Rattle.std.specs.Prelude.{◌≡◌, ◌≤◌, unsigned_abs, option_map, IfSome};
+ghost use Rattle.std.specs.Prelude.{◌≡◌, ◌≤◌, true, unsigned_abs, option_map, IfSome};
 ghost use Rattle.mass_units.specs.Spelling.{IsIndex};
 ghost use Rattle.serde_json.specs.Find.{as_str, get_member};
 ghost use Rattle.serde_json.specs.View.{view};
 ghost use Rattle.hold_parts.specs.Spellings.{IsName};
 ghost use Rattle.aircraft_file.specs.Spellings.{is_name};
-ghost use Rattle.desk_bodies.specs.Values.{at, index, mass, members_in, object_of, signed, text, whole};
+ghost use Rattle.flight_state.specs.Spellings.{is_day};
+ghost use Rattle.desk_bodies.specs.Values.{at, day, index, mass, members_in, object_of, signed, text, whole};
 
-use crate::values::{read_index, read_mass, read_name, read_number, read_signed, read_text};
+use crate::values::{
+    read_day, read_index, read_mass, read_name, read_number, read_signed, read_text,
+};
+use flight_state::Day;
 use hold_limits::Name;
 use mass_units::{Kg, Ticks};
 use serde_json::{Map, Value};
@@ -64,6 +68,14 @@ impl<'a> Object<'a> {
         ensures within { IfSome result (λ mass. (least ≤ mass.0) × (mass.0 ≤ 1000000)) }
     {
         read_mass(self.value(name)?, least)
+    }
+
+    /// The day of a month whose number is at this key.
+    pub fn day(&self, name: &str) -> Option<Day>
+        ensures value { result ≡ at name.now day (members_in self.now) }
+        ensures spelled { IfSome result (λ text. is_day text ≡ true) }
+    {
+        read_day(self.value(name)?)
     }
 
     /// The index whose text is at this key.

@@ -1,13 +1,15 @@
 //! What a value of JSON says where it is in one of the forms.
 
-ghost use Rattle.std.specs.Prelude.{◌≡◌, ◌≤◌, unsigned_abs, option_map, IfSome};
+ghost use Rattle.std.specs.Prelude.{◌≡◌, ◌≤◌, true, unsigned_abs, option_map, IfSome};
 ghost use Rattle.mass_units.specs.Spelling.{IsIndex};
 ghost use Rattle.serde_json.specs.Find.{as_str};
 ghost use Rattle.serde_json.specs.View.{view};
 ghost use Rattle.hold_parts.specs.Spellings.{IsName};
 ghost use Rattle.aircraft_file.specs.Spellings.{is_name};
-ghost use Rattle.desk_bodies.specs.Values.{index, mass, signed, text, triple, whole};
+ghost use Rattle.flight_state.specs.Spellings.{is_day};
+ghost use Rattle.desk_bodies.specs.Values.{day, index, mass, signed, text, triple, whole};
 
+use flight_state::Day;
 use hold_limits::Name;
 use mass_units::{Kg, Ticks, read_ticks5};
 use serde_json::Value;
@@ -45,6 +47,16 @@ pub fn read_mass(value: &Value, least: u32) -> Option<Kg>
     ensures within { IfSome result (λ mass. (least ≤ mass.0) × (mass.0 ≤ 1000000)) }
 {
     read_number(value, least, 1_000_000).map(Kg)
+}
+
+/// The day of a month whose number, 1 to 31, the value is.
+#[tactic(auto, unfolding(crate::specs::Values::day))]
+pub fn read_day(value: &Value) -> Option<Day>
+    ensures value { result ≡ day (view value.now) }
+    ensures spelled { IfSome result (λ text. is_day text ≡ true) }
+{
+    let day = read_number(value, 1, 31)? as u8;
+    Day::read(&[b'0' + day / 10, b'0' + day % 10])
 }
 
 /// The bytes of a text.

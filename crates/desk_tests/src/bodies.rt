@@ -76,9 +76,50 @@ fn check_loose(alloc: Global, loads: &[LooseFigure], due: &str) -> Result<(), Fa
 fn the_leg_of_the_worked_day(rt: HostRuntime) -> Result<(), Fail> {
     let leg = read_leg(
         rt.alloc(),
-        br#"{"flight":"XX210","day":"12","registration":"DAIAB","origin":"FRA","destination":"ARN"}"#,
+        br#"{"flight":"XX210","day":12,"registration":"DAIAB","origin":"FRA","destination":"ARN"}"#,
     )?;
     check_leg(rt.alloc(), &leg, "XX210 12 DAIAB FRA ARN")
+}
+
+/// Values for the day of a flight, each with the day that is read, and with a dash where the body is refused.
+const DAYS: &str = r#"1|01
+5|05
+12|12
+30|30
+31|31
+"12"|-
+"05"|-
+05|-
+0|-
+32|-
+-1|-
+12.0|-
+1e1|-
+4294967308|-
+18446744073709551628|-
+[12]|-
+true|-
+null|-"#;
+
+/// The day of a leg whose body has this value for it, and a dash where the body is refused.
+fn day_read(alloc: Global, value: &str) -> Result<String, Fail> {
+    let body = format!(in alloc;
+        r#"{{"flight":"XX210","day":{value},"registration":"DAIAB","origin":"FRA","destination":"ARN"}}"#
+    )?;
+    match read_leg(alloc, body.as_bytes()) {
+        Ok(leg) => Ok(String::from_str(alloc, text_of(leg.day.bytes()))?),
+        Err(BodyFault::Form) => Ok(String::from_str(alloc, "-")?),
+        Err(BodyFault::NoMemory) => Err(Fail::new("out of memory")),
+    }
+}
+
+#[test]
+fn a_day_is_a_number_from_1_to_31(rt: HostRuntime) -> Result<(), Fail> {
+    for row in DAYS.split('\n') {
+        let (value, due) = row.split_once('|').ok_or("a row has two fields")?;
+        compare(day_read(rt.alloc(), value)?.as_str(), due)?;
+    }
+    Ok(())
 }
 
 #[test]

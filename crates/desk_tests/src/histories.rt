@@ -38,7 +38,7 @@ fn figures(alloc: Global) -> Figures {
 /// The leg, as a body has it: each of its names read by itself would take longer to prove.
 fn leg(alloc: Global) -> Result<Leg, NoMemory> {
     let body =
-        br#"{"flight":"XX210","day":"12","registration":"DAIAB","origin":"FRA","destination":"ARN"}"#;
+        br#"{"flight":"XX210","day":12,"registration":"DAIAB","origin":"FRA","destination":"ARN"}"#;
     read_leg(alloc, body).map_err(|_| NoMemory)
 }
 

@@ -10,7 +10,7 @@ use std::test::Fail;
 /// A request of each route: its method, its target, a word for what it asks, and its body. A `~` stands for the end of a
 /// line.
 const REQUESTS: &[u8] =
-    br#"POST|/flights|open|{"flight":"XX210","day":"12","registration":"DAIAB","origin":"FRA","destination":"ARN"}
+    br#"POST|/flights|open|{"flight":"XX210","day":12,"registration":"DAIAB","origin":"FRA","destination":"ARN"}
 GET|/flights/XX210-12|row|
 PUT|/flights/XX210-12/dry/1|dry|{"mass":42000,"index":"50.00000","cockpit":2,"cabin":4}
 PUT|/flights/XX210-12/fuel/2|fuel|{"taxi":200,"takeoff":9000,"trip":6000}

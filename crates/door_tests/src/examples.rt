@@ -87,9 +87,9 @@ aft = [[40000, "61.00000"], [70000, "61.00000"]]
 /// The day up to the last figures.
 pub const MORNING: &str = "\
     POST /flights HTTP/1.1\r\n\
-    Content-Length: 87\r\n\
+    Content-Length: 85\r\n\
     \r\n\
-    {\"flight\":\"XX210\",\"day\":\"12\",\"registration\":\"DAIAB\",\"origin\":\"FRA\",\"destination\":\"ARN\"}PUT /flights/XX210-12/dry/1 HTTP/1.1\r\n\
+    {\"flight\":\"XX210\",\"day\":12,\"registration\":\"DAIAB\",\"origin\":\"FRA\",\"destination\":\"ARN\"}PUT /flights/XX210-12/dry/1 HTTP/1.1\r\n\
     Content-Length: 55\r\n\
     \r\n\
     {\"mass\":42000,\"index\":\"50.00000\",\"cockpit\":2,\"cabin\":4}PUT /flights/XX210-12/fuel/2 HTTP/1.1\r\n\

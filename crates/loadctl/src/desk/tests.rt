@@ -10,9 +10,9 @@ use std::test::Fail;
 /// A flight is opened, and its row is asked for.
 const OPENED: &str = "\
     POST /flights HTTP/1.1\r\n\
-    Content-Length: 87\r\n\
+    Content-Length: 85\r\n\
     \r\n\
-    {\"flight\":\"XX210\",\"day\":\"12\",\"registration\":\"DAIAB\",\"origin\":\"FRA\",\"destination\":\"ARN\"}\
+    {\"flight\":\"XX210\",\"day\":12,\"registration\":\"DAIAB\",\"origin\":\"FRA\",\"destination\":\"ARN\"}\
     GET /flights/XX210-12/sheet HTTP/1.1\r\n\
     \r\n";
 
