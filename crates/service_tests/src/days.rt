@@ -88,9 +88,9 @@ aft = [[40000, "61.00000"], [70000, "61.00000"]]
 /// The day up to the last figures.
 const MORNING: &str = "\
     POST /flights HTTP/1.1\r\n\
-    Content-Length: 87\r\n\
+    Content-Length: 85\r\n\
     \r\n\
-    {\"flight\":\"XX210\",\"day\":\"12\",\"registration\":\"DAIAB\",\"origin\":\"FRA\",\"destination\":\"ARN\"}PUT /flights/XX210-12/dry/1 HTTP/1.1\r\n\
+    {\"flight\":\"XX210\",\"day\":12,\"registration\":\"DAIAB\",\"origin\":\"FRA\",\"destination\":\"ARN\"}PUT /flights/XX210-12/dry/1 HTTP/1.1\r\n\
     Content-Length: 55\r\n\
     \r\n\
     {\"mass\":42000,\"index\":\"50.00000\",\"cockpit\":2,\"cabin\":4}PUT /flights/XX210-12/fuel/2 HTTP/1.1\r\n\
@@ -383,9 +383,9 @@ const AFTERNOON_ANSWERS: &str = "\
 /// Four requests, the third of which is made twice.
 const AGAIN: &str = "\
     POST /flights HTTP/1.1\r\n\
-    Content-Length: 87\r\n\
+    Content-Length: 85\r\n\
     \r\n\
-    {\"flight\":\"XX210\",\"day\":\"12\",\"registration\":\"DAIAB\",\"origin\":\"FRA\",\"destination\":\"ARN\"}PUT /flights/XX210-12/dry/1 HTTP/1.1\r\n\
+    {\"flight\":\"XX210\",\"day\":12,\"registration\":\"DAIAB\",\"origin\":\"FRA\",\"destination\":\"ARN\"}PUT /flights/XX210-12/dry/1 HTTP/1.1\r\n\
     Content-Length: 55\r\n\
     \r\n\
     {\"mass\":42000,\"index\":\"50.00000\",\"cockpit\":2,\"cabin\":4}PUT /flights/XX210-12/fuel/2 HTTP/1.1\r\n\
@@ -460,6 +460,20 @@ const LAST_ANSWER: &str = "\
     \r\n\
     {\"error\":\"no route\"}";
 
+/// The head of a request whose body has the greatest length.
+const NESTED_HEAD: &str = "\
+    POST /flights HTTP/1.1\r\n\
+    Content-Length: 16384\r\n\
+    \r\n";
+
+/// The answer to a body that is not in its form.
+const BODY_ANSWER: &str = "\
+    HTTP/1.1 400 Bad Request\r\n\
+    Content-Type: application/json\r\n\
+    Content-Length: 16\r\n\
+    \r\n\
+    {\"error\":\"body\"}";
+
 /// No route, as the last request, and more behind it.
 const LAST: &str = "\
     GET /flight HTTP/1.1\r\n\
@@ -506,8 +520,7 @@ impl Case {
         }
     }
 
-    fn link(self, alloc: Global) -> Result<MemoryLink, NoMemory> {
-        let input = joined(alloc, self.asked, self.times)?;
+    fn link(self, alloc: Global, input: Vec<u8>) -> Result<MemoryLink, NoMemory> {
         let most = (self.most as usize).max(1);
         let fail_reads = vec![in alloc; self.fail_read]?;
         let fail_writes = vec![in alloc; self.fail_write]?;
@@ -540,8 +553,14 @@ fn joined(alloc: Global, texts: &[&str], times: u32) -> Result<Vec<u8>, NoMemory
 
 /// How the connection of a case ends, and what is written to it.
 fn served(rt: &HostRuntime, case: Case) -> Result<(ConnEnd, Vec<u8>), NoMemory> {
+    let input = joined(rt.alloc(), case.asked, case.times)?;
+    served_on(rt, case, input)
+}
+
+/// The same on this input.
+fn served_on(rt: &HostRuntime, case: Case, input: Vec<u8>) -> Result<(ConnEnd, Vec<u8>), NoMemory> {
     let alloc = rt.alloc();
-    let mut link = case.link(alloc)?;
+    let mut link = case.link(alloc, input)?;
     let mut tools = Tools::new(alloc)?;
     let mut solo = case.office(alloc)?;
     let end = serve_connection(rt, alloc, &mut tools, &mut solo, &mut link, &Direct);
@@ -630,6 +649,27 @@ fn an_office_without_room_says_so(rt: HostRuntime) -> Result<(), Fail> {
     };
     let due = [MORNING_ANSWERS, FULL_ANSWER, FULL_ANSWER, REFUSED_ANSWERS];
     check(&rt, case, ConnEnd::Ended, &due)
+}
+
+/// A request whose body is 200 lists, each within the one before it, and spaces up to the greatest length; and then another one.
+fn nested(alloc: Global) -> Result<Vec<u8>, NoMemory> {
+    let mut input = joined(alloc, &[NESTED_HEAD], 1)?;
+    input.extend_from_slice(joined(alloc, &["["], 200)?.as_slice())?;
+    input.extend_from_slice(joined(alloc, &["]"], 200)?.as_slice())?;
+    input.extend_from_slice(joined(alloc, &[" "], 15_984)?.as_slice())?;
+    input.extend_from_slice(NO_ROUTE.as_bytes())?;
+    Ok(input)
+}
+
+#[test]
+fn a_body_of_nested_lists_is_refused_and_the_connection_goes_on(
+    rt: HostRuntime,
+) -> Result<(), Fail> {
+    let input = nested(rt.alloc())?;
+    let (end, written) = served_on(&rt, Case::of(&[]), input)?;
+    assert_eq!(rt; end, ConnEnd::Ended);
+    assert!(rt; written == joined(rt.alloc(), &[BODY_ANSWER, NO_ROUTE_ANSWER], 1)?);
+    Ok(())
 }
 
 #[test]
