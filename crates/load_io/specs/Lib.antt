@@ -1,5 +1,6 @@
 pub mod Calls
 pub mod Door
+pub mod Port
 pub mod Sink
 pub mod Source
 pub mod MemorySink

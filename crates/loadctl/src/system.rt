@@ -15,6 +15,7 @@ use std::io;
 use std::net::{Net, TcpListener, TcpStream};
 use std::sync::Wait;
 use std::thread::Threads;
+use std::time::Clock;
 
 /// Keeps rows in a file, or in memory where there is none. Its tables are hidden.
 #[derive(Drop)]
@@ -50,7 +51,7 @@ pub struct System<Rt: Drop> {
 }
 
 impl<
-    Rt: StoreRuntime + Net<Listener = TcpListener, Stream = TcpStream> + Copy + Send + Drop,
+    Rt: StoreRuntime + Net<Listener = TcpListener, Stream = TcpStream> + Clock + Copy + Send + Drop,
 > Objects for System<Rt>
 where
     Rt::Rows: Send,
@@ -94,6 +95,7 @@ pub fn execute_on<
         + Sync
         + StoreRuntime
         + Net<Listener = TcpListener, Stream = TcpStream>
+        + Clock
         + Copy
         + Send
         + Drop,

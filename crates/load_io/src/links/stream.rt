@@ -3,20 +3,19 @@ ghost use Rattle.std.specs.Prelude.{◌≡◌, None};
 
 use crate::{Failed, Link};
 use std::io::{Read, Write};
-use std::net::TcpStream;
 
 /// A connection over TCP. Its contents are hidden. It counts its failures up to the last value of each counter.
 #[derive(Drop)]
-pub struct TcpLink {
-    stream: TcpStream,
+pub struct TcpLink<S: Read + Write + Drop> {
+    stream: S,
     read_faults: u64,
     write_faults: u64,
 }
 
-impl TcpLink {
+impl<S: Read + Write + Drop> TcpLink<S> {
     /// The connection as a link. No failure has been counted yet.
-    pub(crate) fn new(stream: TcpStream) -> TcpLink
-        ensures hidden { ⟦<TcpLink as Link>⟧.left result ≡ None }
+    pub(crate) fn new(stream: S) -> TcpLink<S>
+        ensures hidden { ⟦<TcpLink<S> as Link>⟧.left result ≡ None }
     {
         TcpLink {
             stream,
@@ -26,7 +25,7 @@ impl TcpLink {
     }
 }
 
-impl Link for TcpLink {
+impl<S: Read + Write + Drop> Link for TcpLink<S> {
     ghost use Rattle.std.specs.Prelude.{[]};
 
     ghost left = { λ _. None };

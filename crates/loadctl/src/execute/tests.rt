@@ -6,6 +6,7 @@ use placer::Direct;
 use sqlite_keeper::StoreRuntime;
 use std::net::{Net, TcpListener, TcpStream};
 use std::test::Fail;
+use std::time::Clock;
 
 /// A task without containers.
 const TASK: &str = "TASK 1
@@ -42,6 +43,7 @@ fn executed<
         + Sync
         + StoreRuntime
         + Net<Listener = TcpListener, Stream = TcpStream>
+        + Clock
         + Copy
         + Send
         + Drop,
