@@ -1,5 +1,5 @@
 -- The cards of desks that are given back.
-use Rattle.std.proofs.Common.{◌≡◌, ◌<◌, ◌≤◌, ◌+◌, ℕ, zero, suc, List, [], ◌∷◌, ◌++◌, length, map, get_or, Option, Some, None, Bool, true, false, nat_le, refl, sym, ◌∙◌, ap, subst, arith, append_assoc, length-append}
+use Rattle.std.proofs.Common.{◌≡◌, ◌<◌, ◌≤◌, ◌+◌, ℕ, zero, suc, List, [], ◌∷◌, ◌++◌, length, map, get_or, Option, Some, None, Bool, true, false, nat_le, min, refl, sym, ◌∙◌, ap, subst, arith, append_assoc, length-append}
 use Rattle.std.proofs.Math.ListN.{get_or-append}
 use Rattle.desk_lock.proofs.Seats.{last_taken}
 use Rattle.std.specs.List.{All, slice_get}
@@ -15,8 +15,8 @@ use Rattle.desk_lock.specs.declared.views.View.TheVariants.{InRoom}
 use Rattle.desk_lock.specs.Views.{card_of, collected_in, keep_if, lasting_ticket}
 use Rattle.desk_lock.specs.Rule.{At}
 use Rattle.desk_lock.specs.Steps.{Seated, Ends, IsIdle, Covers, AreIdle}
-use Rattle.desk_lock.specs.Desks.{number, seen, origin, room_of, IsFull}
-use Rattle.desk_lock.specs.Rooms.{AreAllDesks, Closes}
+use Rattle.desk_lock.specs.Desks.{number, seen, ticket, origin, room_of}
+use Rattle.desk_lock.specs.Rooms.{greatest, drawn_up_to, tickets_drawn, AreAllDesks, Closes}
 use Rattle.desk_lock.proofs.Owning.{own-Continues}
 
 pub rejoined : {M E : Type 0} (p : Origin M) (n : ℕ) (s : Stage) (collected : List (ℕ × Card E)) (w : Seated M E) → w ≡ (InRoom p n s collected, []) → w ≡ (InRoom p n s (collected_in w.0), [])
@@ -70,8 +70,34 @@ pub lasting-free : (capacity : ℕ) (o : Option ℕ) → ((t : ℕ) → o ≡ So
 lasting-free capacity None free = refl
 lasting-free capacity (Some t) free = lasting-served capacity t (free t refl)
 
+-- the greatest of the numbers of the elements: none is greater, and where one reaches a bound of all it is the bound
+module _ {A : Type 0} (of : A → ℕ) where
+  greatest-each : (xs : List A) (i : ℕ) (x : A) → slice_get xs i ≡ Some x → of x ≤ greatest of xs
+  greatest-each [] i x e = absurd (let q : None ≡ Some x = e in cc)
+  greatest-each (y ∷ ys) zero x e = let q : y ≡ x = cc in let same : of y ≡ of x = ap of q in omega arith
+  greatest-each (y ∷ ys) (suc i) x e = let h = greatest-each ys i x e in omega arith
+
+  greatest-most : (n : ℕ) (xs : List A) → ((i : ℕ) (x : A) → slice_get xs i ≡ Some x → of x ≤ n) → greatest of xs ≤ n
+  greatest-most n [] each = omega arith
+  greatest-most n (y ∷ ys) each = let first = each 0 y refl in let others = greatest-most n ys (λ i. each (suc i)) in omega arith
+
+  pub greatest-is : (n : ℕ) (xs : List A) → ((i : ℕ) (x : A) → slice_get xs i ≡ Some x → of x ≤ n)
+      → ((t : ℕ) → t + 1 ≡ n → (i : ℕ) × (x : A) × (slice_get xs i ≡ Some x) × (of x ≡ n)) → greatest of xs ≡ n
+  greatest-is zero xs each reached = let most = greatest-most 0 xs each in omega arith
+  greatest-is (suc t) xs each reached =
+      let most = greatest-most (suc t) xs each in
+      let h = reached t (omega arith) in
+      let least = greatest-each xs h.0 h.1 h.2 in
+      let is = h.3 in
+      omega arith
+
+-- a last ticket that is one of so many
+pub up_to : (found : ℕ) (o : Option ℕ) → ((t : ℕ) → o ≡ Some t → t < found) → drawn_up_to o ≤ found
+up_to found None h = omega arith
+up_to found (Some t) h = let lt = h t refl in omega arith
+
 module _ {M Q R E G : Type 0} where
-  abbrev pub card_at : Desk M Q R E G → ℕ × Card E
+  abbrev card_at : Desk M Q R E G → ℕ × Card E
   card_at d = (d.place, card_of d.seat.me.0)
 
   pub mine_front : (p : Origin M) (t : TableId) (others : List (Desk M Q R E G)) (d : Desk M Q R E G) (items : List (Desk M Q R E G)) → items ≡ others ++ d ∷ []
@@ -84,9 +110,9 @@ module _ {M Q R E G : Type 0} where
   rests : (d : Desk M Q R E G) → IsIdle (origin d).capacity (card_of d.seat.me.0)
   rests d t e = subst (λ c. c ≤ t) d.limit (lasting-beyond d.capacity d.ticket t (sym (ticket_is d) ∙ e))
 
-  -- the ticket of a full desk is in its card
-  full_ticket : (d : Desk M Q R E G) (f : IsFull d) → (card_of d.seat.me.0).ticket ≡ Some f.0
-  full_ticket d f = ticket_is d ∙ (ap (lasting_ticket d.capacity) f.1 ∙ lasting-full d.capacity f.0 (subst (λ c. c ≤ f.0) (sym d.limit) f.2))
+  -- the ticket that a desk drew last is in its card
+  last_is : (d : Desk M Q R E G) → (card_of d.seat.me.0).last ≡ ticket d
+  last_is d = ap (λ (z : Seated M E). (card_of z.0).last) d.idle
 
   pub covers : (n : ℕ) (desks : List (Desk M Q R E G)) (collected : List (ℕ × Card E)) → collected ≡ map card_at desks
       → ((k : ℕ) → k < n → (i : ℕ) × (d : Desk M Q R E G) × (slice_get desks i ≡ Some d) × (number d ≡ k + 1)) → Covers n collected
@@ -109,17 +135,26 @@ module _ {M Q R E G : Type 0} where
       → Closes history_of desk_of p count desks (history_of m)
   closes setting_of follows history_of desk_of p room count found desks collected m is back ends =
       let carried = λ (i : ℕ) (d : Desk M Q R E G) (here : slice_get desks i ≡ Some d). subst (λ j. At j i (card_at d)) (sym is) (at_get card_at desks i d here) in
+      let drawn = λ (i : ℕ) (d : Desk M Q R E G) (here : slice_get desks i ≡ Some d) (t : ℕ) (e : ticket d ≡ Some t). ends.drawn i (card_at d) (carried i d here) t (last_is d ∙ e) in
+      let drawer : (t : ℕ) → ((i : ℕ) × (x : ℕ × Card E) × At collected i x × (x.1.last ≡ Some t)) → (i : ℕ) × (d : Desk M Q R E G) × (slice_get desks i ≡ Some d) × (ticket d ≡ Some t) = λ t h.
+      let g = get_at card_at desks h.0 h.1 (subst (λ j. At j h.0 h.1) is h.2) in
+      (h.0, g.0, g.1, sym (last_is g.0) ∙ (ap (λ (y : ℕ × Card E). y.1.last) g.2 ∙ h.3)) in
+      let all : tickets_drawn desks ≡ found = greatest-is (λ (d : Desk M Q R E G). drawn_up_to (ticket d)) found desks
+      (λ i d here. up_to found (ticket d) (drawn i d here))
+      (λ t e. let h = drawer t (ends.newest t e) in (h.0, h.1, h.2, ap drawn_up_to h.3 ∙ e)) in
+      let long : length ends.rest ≡ min (tickets_drawn desks) p.capacity = ends.long ∙ ap (λ n. min n p.capacity) (sym all) in
       let seen_by = λ (i : ℕ) (d : Desk M Q R E G) (here : slice_get desks i ≡ Some d). ends.seen i (card_at d) (carried i d here) in
       record {
         rest = ends.rest;
         beyond = ends.history;
         made = ends.made;
-        tickets = found;
-        long = ends.long;
+        long = long;
         seen_by = seen_by;
         own_of = λ i d here. own-Continues desk_of (number d) (seen d) (history_of m) (seen_by i d here);
         full = λ i d here full.
-            let drawn : full.0 < found = ends.drawn i (card_at d) (carried i d here) full.0 (full_ticket d full) in
+            let lt : full.0 < found = drawn i d here full.0 full.1 in
             let beyond : p.capacity ≤ full.0 = subst (λ (q : Origin M). q.capacity ≤ full.0) (back.mine i d here).0 full.2 in
             ends.long ∙ omega arith;
+        alone = λ i j d e t here there td te. ap (λ x. x + 1) (ends.alone i j (card_at d) (card_at e) t (carried i d here) (carried j e there) (last_is d ∙ td) (last_is e ∙ te));
+        refused = λ t beyond lt. drawer t (ends.kept t beyond (subst (λ n. t < n) all lt));
       }

@@ -75,7 +75,8 @@ module _ {M E G : Type 0} (setting_of : M → G) (follows : M → M → Type 0) 
       few = omega arith;
       valid = λ k c at. absurd (none_there k c at);
       alone = λ i j a b t ai bj ta tb. absurd (none_there i a ai);
-      pending = λ t lo hi low. absurd (omega arith);
+      newest = λ t e. absurd (omega arith);
+      pending = λ t lo hi. absurd (omega arith);
       rest = [];
       beyond = sym (append-nil (history_of origin.machine));
       long = refl;
@@ -197,10 +198,10 @@ module _ {M E G : Type 0} (setting_of : M → G) (follows : M → M → Type 0) 
   longer cards d seat_of n new id by is ne root (InRoom q m s collected) f = absurd (ne (f.1 ∙ sym root))
 
   splits : (id n : ℕ) (collected : List (ℕ × Card E)) → n < 8
-      → Splits Rule id (InRoom origin n Working collected) (InRoom origin (n + 1) Working collected) (AtDesk origin n (card None false (history_of origin.machine)))
+      → Splits Rule id (InRoom origin n Working collected) (InRoom origin (n + 1) Working collected) (AtDesk origin n (card None None false (history_of origin.machine)))
   splits id n collected few s kept at =
       let f = room_at s kept id n Working collected at in
-      let d : Card E = card None false (history_of origin.machine) in
+      let d : Card E = card None None false (history_of origin.machine) in
       let v : View E (Origin M) = InRoom origin (n + 1) Working collected in
       let new = length (set s.views id v) in
       let wide : id < new = subst (λ x. id < x) (sym (length_set s.views id v)) (within s.views id (InRoom origin n Working collected) at) in
@@ -293,6 +294,11 @@ module _ {M E G : Type 0} (setting_of : M → G) (follows : M → M → Type 0) 
       let z = covers k (subst (λ x. k < x) (sym f.made) w) in
       let g = f.here z.0 (k, z.1) z.2 in
       idle z.0 (k, z.1) z.2 t (ap (λ (x : Card E). x.ticket) (same_at kept.cards k z.1 c g.1 here) ∙ e) in
+      let back : (t k : ℕ) (c : Card E) → At kept.cards k c → c.last ≡ Some t → (i : ℕ) × (x : ℕ × Card E) × At collected i x × (x.1.last ≡ Some t) = λ t k c here e.
+      let w = within kept.cards k c here in
+      let z = covers k (subst (λ x. k < x) (sym f.made) w) in
+      let g = f.here z.0 (k, z.1) z.2 in
+      (z.0, (k, z.1), z.2, ap (λ (x : Card E). x.last) (same_at kept.cards k z.1 c g.1 here) ∙ e) in
       let clear : (k : ℕ) (c : Card E) → At kept.cards k c → c.has_turn ≡ false = λ k c here. elim (cases_Bool c.has_turn) [
         | inl y ↦ let m = (r.valid k c here).turn y in let z = all_idle k c here kept.serving m.0 in absurd (omega arith)
         | inr n ↦ n
@@ -330,7 +336,13 @@ module _ {M E G : Type 0} (setting_of : M → G) (follows : M → M → Type 0) 
                 subst (λ l. Continues desk_of (x.0 + 1) x.1.seen l) (sym home.2.history) (r.valid x.0 x.1 g.1).seen;
             drawn = λ i x here t e.
                 let g = f.here i x here in
-                subst (λ z. t < z) (sym is) ((r.valid x.0 x.1 g.1).ticket t e).0;
+                subst (λ z. t < z) (sym is) ((r.valid x.0 x.1 g.1).drawn t e);
+            newest = λ t e. let h = r.newest t (e ∙ is) in back t h.0 h.1 h.2 h.3;
+            kept = λ t beyond lt.
+                let below = r.below in
+                let h = r.pending t (omega arith) (subst (λ z. t < z) is lt) in
+                back t h.0 h.1 h.2 ((r.valid h.0 h.1 h.2).ticket t h.3).0;
+            alone = λ i j x y t xi yj tx ty. r.alone x.0 y.0 x.1 y.1 t (f.here i x xi).1 (f.here j y yj).1 tx ty;
           },
         ),
       )
@@ -363,7 +375,7 @@ module _ {M E : Type 0} (origin : Origin M) where
   pub split_left : (n : ℕ) (collected : List (ℕ × Card E)) (me w : Seated M E) → me ≡ (InRoom origin n Working collected, []) → w ≡ (with_one_more me.0, me.1) → w ≡ (InRoom origin (n + 1) Working collected, [])
   split_left n collected me w e h = h ∙ ap (λ (z : Seated M E). (with_one_more z.0, z.1)) e
 
-  pub split_right : (first : Origin M → List E) (n : ℕ) (collected : List (ℕ × Card E)) (me w : Seated M E) → me ≡ (InRoom origin n Working collected, []) → w ≡ (next_desk first me.0, []) → w ≡ (AtDesk origin n (card None false (first origin)), [])
+  pub split_right : (first : Origin M → List E) (n : ℕ) (collected : List (ℕ × Card E)) (me w : Seated M E) → me ≡ (InRoom origin n Working collected, []) → w ≡ (next_desk first me.0, []) → w ≡ (AtDesk origin n (card None None false (first origin)), [])
   split_right first n collected me w e h = h ∙ ap (λ (z : Seated M E). (next_desk first z.0, [])) e
 
   pub joined_both : (n k : ℕ) (collected : List (ℕ × Card E)) (c : Card E) (me other w : Seated M E) → me ≡ (InRoom origin n Working collected, []) → other ≡ (AtDesk origin k c, []) → w ≡ (with_card_of me.0 other.0, me.1)

@@ -20,7 +20,7 @@ use Rattle.desk_lock.specs.declared.views.Origin.{Origin}
 use Rattle.desk_lock.specs.Views.{card, card_of, with_card}
 use Rattle.desk_lock.specs.Rule.{At, Slot, is_beyond, IsOrderly, IsHoused, Agrees, IsKept}
 use Rattle.desk_lock.specs.Steps.{Draws, GetsTurn, Looks, Advances, Counts}
-use Rattle.desk_lock.proofs.Cards.{within, same_at, length_set, changed, draws as draw_runs, marks, advances as advance_runs, one_ticket}
+use Rattle.desk_lock.proofs.Cards.{within, same_at, length_set, changed, draws as draw_runs, marks, advances as advance_runs, alone_in_hand, one_ticket}
 
 pub pair_again : (a b i : ℕ) → i < 2 → set (a ∷ b ∷ []) i (slice_index (a ∷ b ∷ []) i) ≡ a ∷ b ∷ []
 pair_again a b zero h = refl
@@ -129,11 +129,11 @@ module _ {M E G : Type 0} (setting_of : M → G) (follows : M → M → Type 0) 
       → Allows Rule slots id (AtDesk origin k c, carried) 0 (λ n. (n + 1) % 2 ^ 64) (Draws (step slots 0 1 0 none) (AtDesk origin k c, carried))
   draws slots id k c carried free s kept len at bound =
       let n = slice_index s.words 0 in
-      let d : Card E = card (Some n) c.has_turn c.seen in
+      let d : Card E = card (Some n) (Some n) c.has_turn c.seen in
       let is : slice_index s.words 0 ≡ kept.tickets = rw kept.words refl in
       let mine = own s kept id k c at in
-      let d' : Card E = card (Some kept.tickets) c.has_turn c.seen in
-      let same : d' ≡ d = ap (λ x. card (Some x) c.has_turn c.seen) (sym is) in (
+      let d' : Card E = card (Some kept.tickets) (Some kept.tickets) c.has_turn c.seen in
+      let same : d' ≡ d = ap (λ x. card (Some x) (Some x) c.has_turn c.seen) (sym is) in (
         AtDesk origin k d,
         keeps,
         tt,
@@ -149,7 +149,7 @@ module _ {M E G : Type 0} (setting_of : M → G) (follows : M → M → Type 0) 
       → At cards k c → c.ticket ≡ Some serving → c.has_turn ≡ false → (j : ℕ) (b : Card E) → At cards j b → b.has_turn ≡ false
   unmarked cards tickets serving log k c r at mine free j b atj = elim (cases_Bool b.has_turn) [
     | inl is ↦
-        let e : j ≡ k = r.alone j k b c serving atj at ((r.valid j b atj).turn is).0 mine in
+        let e : j ≡ k = alone_in_hand desk_of origin.capacity (history_of origin.machine) cards tickets serving log r j k b c serving atj at ((r.valid j b atj).turn is).0 mine in
         ap (λ (x : Card E). x.has_turn) (same_at cards k b c (subst (λ n. At cards n b) e atj) at) ∙ free
     | inr not ↦ not
   ]
@@ -157,11 +157,11 @@ module _ {M E G : Type 0} (setting_of : M → G) (follows : M → M → Type 0) 
   -- a desk looks, and it is its turn
   pub look_hit : (s : St) (kept : Rule s) (id k : ℕ) (c : Card E) (carried : List (ℕ × Option M)) → At s.views id (AtDesk origin k c) → c.ticket ≡ Some kept.serving → kept.serving < origin.capacity → c.has_turn ≡ false
       → (m : M) × (s.homes ≡ some (Some m) ∷ [])
-      × Rule record { words = set s.words 1 (slice_index s.words 1); homes = set s.homes 0 none; views = set s.views id (AtDesk origin k (card (Some kept.serving) true kept.log)) }
-      × GetsTurn setting_of follows history_of spare_of desk_of origin k kept.serving c carried (AtDesk origin k (card (Some kept.serving) true kept.log), (0, Some m) ∷ carried)
+      × Rule record { words = set s.words 1 (slice_index s.words 1); homes = set s.homes 0 none; views = set s.views id (AtDesk origin k (card (Some kept.serving) (Some kept.serving) true kept.log)) }
+      × GetsTurn setting_of follows history_of spare_of desk_of origin k kept.serving c carried (AtDesk origin k (card (Some kept.serving) (Some kept.serving) true kept.log), (0, Some m) ∷ carried)
   look_hit s kept id k c carried at mine under free =
       let here = own s kept id k c at in
-      let d : Card E = card (Some kept.serving) true kept.log in
+      let d : Card E = card (Some kept.serving) (Some kept.serving) true kept.log in
       let home = (at_work s kept id k c at).1 (unmarked kept.cards kept.tickets kept.serving kept.log k c kept.runs here mine free) in (
         home.0,
         home.1,
@@ -216,11 +216,11 @@ module _ {M E G : Type 0} (setting_of : M → G) (follows : M → M → Type 0) 
             let mine : unwrap_or c.ticket 0 ≡ t = rw tick refl in
             let now : t ≡ kept.serving = grind (arith, nat_tests) in
             let h = look_hit s kept id k c carried at (tick ∙ ap Some now) (subst (λ x. x < origin.capacity) now under) free in (
-              AtDesk origin k (card (Some kept.serving) true kept.log),
+              AtDesk origin k (card (Some kept.serving) (Some kept.serving) true kept.log),
               takes 0 (Some h.0),
               at_home s.homes h.0 h.1,
               h.2,
-              rw hit (subst (λ x. GetsTurn setting_of follows history_of spare_of desk_of origin k x c carried (AtDesk origin k (card (Some kept.serving) true kept.log), (0, Some h.0) ∷ carried)) (sym is) h.3),
+              rw hit (subst (λ x. GetsTurn setting_of follows history_of spare_of desk_of origin k x c carried (AtDesk origin k (card (Some kept.serving) (Some kept.serving) true kept.log), (0, Some h.0) ∷ carried)) (sym is) h.3),
             )
         | inr miss ↦ (AtDesk origin k c, keeps, tt, look_miss s kept id (AtDesk origin k c) 1 at (omega arith), rw miss refl)
       ]
@@ -235,20 +235,20 @@ module _ {M E G : Type 0} (setting_of : M → G) (follows : M → M → Type 0) 
       let turn = (kept.runs.valid k c here).turn has_turn in
       let now : t ≡ kept.serving = one_ticket c.ticket t kept.serving tick turn.0 in
       let longer : kept.log ++ e ∷ [] ≡ history_of m = ap (λ (xs : List E). xs ++ e ∷ []) (sym turn.2) ∙ sym log in
-      let d : Card E = card None false (history_of m) in
+      let d : Card E = card None c.last false (history_of m) in
       let out : s.homes ≡ none ∷ [] = (at_work s kept id k c at).0 k c here has_turn in (
         AtDesk origin k d,
         gives,
         tt,
         settles s kept id k c d at (set s.words 1 ((n + 1) % 2 ^ 64)) (set s.homes 0 (some (Some m))) kept.tickets (kept.serving + 1) (history_of m)
             (rw kept.words (ap (λ x. kept.tickets ∷ x ∷ []) (no_wrap_serving kept.cards kept.tickets kept.serving kept.log kept.runs)))
-            (subst (λ x. IsOrderly desk_of origin.capacity (history_of origin.machine) (set kept.cards k (card None false x)) kept.tickets (kept.serving + 1) x) longer
+            (subst (λ x. IsOrderly desk_of origin.capacity (history_of origin.machine) (set kept.cards k (card None c.last false x)) kept.tickets (kept.serving + 1) x) longer
             (advance_runs desk_of origin.capacity (history_of origin.machine) kept.cards kept.tickets kept.serving kept.log k c e kept.runs here has_turn by)) (
               changed kept.cards k d (λ j b. b.has_turn ≡ true → set s.homes 0 (some (Some m)) ≡ none ∷ []) (λ is. absurd (false≢true is))
-                  (λ j b ne atj is. absurd (ne (kept.runs.alone j k b c kept.serving atj here ((kept.runs.valid j b atj).turn is).0 turn.0))),
+                  (λ j b ne atj is. absurd (ne (alone_in_hand desk_of origin.capacity (history_of origin.machine) kept.cards kept.tickets kept.serving kept.log kept.runs j k b c kept.serving atj here ((kept.runs.valid j b atj).turn is).0 turn.0))),
               λ _. (m, (rw out refl), record { same = same; later = later; history = refl; spare = subst (λ x. origin.capacity ≤ (x + 1) + spare_of m) now spare }),
             ),
-        λ m' is. let f : m ≡ m' = cc in ap (λ (x : M). (AtDesk origin k (card None false (history_of x)), carried)) f,
+        λ m' is. let f : m ≡ m' = cc in ap (λ (x : M). (AtDesk origin k (card None c.last false (history_of x)), carried)) f,
       )
 
   -- the same where a seat's view and slots are known by an equation
@@ -288,12 +288,12 @@ module _ {M E G : Type 0} (setting_of : M → G) (follows : M → M → Type 0) 
 
 module _ {M E : Type 0} (origin : Origin M) where
   pub drew : (slots k n : ℕ) (c : Card E) (carried : List (ℕ × Option M)) (me w : Me (Option M) (View E (Origin M))) → me ≡ (AtDesk origin k c, carried) → Draws (step slots 0 1 0 none) me n w
-      → w ≡ (AtDesk origin k (card (Some n) c.has_turn c.seen), carried)
-  drew slots k n c carried me w e h = h ∙ ap (λ (z : Me (Option M) (View E (Origin M))). (with_card (card (Some n) (card_of z.0).has_turn (card_of z.0).seen) z.0, z.1)) e
+      → w ≡ (AtDesk origin k (card (Some n) (Some n) c.has_turn c.seen), carried)
+  drew slots k n c carried me w e h = h ∙ ap (λ (z : Me (Option M) (View E (Origin M))). (with_card (card (Some n) (Some n) (card_of z.0).has_turn (card_of z.0).seen) z.0, z.1)) e
 
 module _ {M E : Type 0} (history_of : M → List E) (origin : Origin M) where
   pub advanced : (slots k found : ℕ) (c : Card E) (x : M) (me w : Me (Option M) (View E (Origin M))) → me ≡ (AtDesk origin k c, (0, Some x) ∷ []) → Advances history_of (step slots 1 1 0 none) me found w
-      → (m : M) → me.1 ≡ (0, Some m) ∷ [] → w ≡ (AtDesk origin k (card None false (history_of m)), [])
+      → (m : M) → me.1 ≡ (0, Some m) ∷ [] → w ≡ (AtDesk origin k (card None c.last false (history_of m)), [])
   advanced slots k found c x me w is = subst
-      (λ (z : Me (Option M) (View E (Origin M))). Advances history_of (step slots 1 1 0 none) z found w → (m : M) → z.1 ≡ (0, Some m) ∷ [] → w ≡ (AtDesk origin k (card None false (history_of m)), []))
+      (λ (z : Me (Option M) (View E (Origin M))). Advances history_of (step slots 1 1 0 none) z found w → (m : M) → z.1 ≡ (0, Some m) ∷ [] → w ≡ (AtDesk origin k (card None c.last false (history_of m)), []))
       (sym is) (λ h m e. h m (ap last_taken e))

@@ -28,12 +28,13 @@ abbrev pub is_beyond : {E : Type 0} → ℕ → Card E → Bool
 is_beyond capacity c = is_beyond_ticket capacity c.ticket
 
 -- the card of the desk at the place k: what the desk has seen is a front of the log, and the rest is other desks'; its
--- ticket was drawn, and where it is below the capacity it is yet to be served; and a desk that has its turn has the
--- ticket that is served, and has seen the whole log
+-- ticket in hand is the one that it drew last, and where it is below the capacity it is yet to be served; and a desk
+-- that has its turn has the ticket that is served, and has seen the whole log
 pub record IsValidCard {E : Type 0} (desk_of : E → ℕ) (capacity tickets serving : ℕ) (log : List E)
     (k : ℕ) (c : Card E) : Type 0 where
   pub seen : Continues desk_of (k + 1) c.seen log
-  pub ticket : (t : ℕ) → c.ticket ≡ Some t → (t < tickets) × (t < capacity → serving ≤ t)
+  pub drawn : (t : ℕ) → c.last ≡ Some t → t < tickets
+  pub ticket : (t : ℕ) → c.ticket ≡ Some t → (c.last ≡ Some t) × (t < capacity → serving ≤ t)
   pub turn : c.has_turn ≡ true → (c.ticket ≡ Some serving) × (serving < capacity) × (c.seen ≡ log)
 
 -- the order of turns, said of plain lists and numbers alone. So many tickets were drawn; `serving` is the ticket whose
@@ -47,12 +48,13 @@ pub record IsOrderly {E : Type 0} (desk_of : E → ℕ) (capacity : ℕ) (openin
   -- beyond the capacity no desk draws twice, so neither word wraps
   pub few : tickets ≤ capacity + count_by (is_beyond capacity) cards
   pub valid : (k : ℕ) (c : Card E) → At cards k c → IsValidCard desk_of capacity tickets serving log k c
-  -- no two desks have one ticket
+  -- no two desks drew one ticket
   pub alone : (i j : ℕ) (a b : Card E) (t : ℕ) → At cards i a → At cards j b
-      → a.ticket ≡ Some t → b.ticket ≡ Some t → i ≡ j
+      → a.last ≡ Some t → b.last ≡ Some t → i ≡ j
+  -- the newest ticket is the last one of some desk
+  pub newest : (t : ℕ) → t + 1 ≡ tickets → (k : ℕ) × (c : Card E) × At cards k c × (c.last ≡ Some t)
   -- each ticket that was drawn and not yet served is in some desk's hand
-  pub pending : (t : ℕ) → serving ≤ t → t < tickets → t < capacity
-      → (k : ℕ) × (c : Card E) × At cards k c × (c.ticket ≡ Some t)
+  pub pending : (t : ℕ) → serving ≤ t → t < tickets → (k : ℕ) × (c : Card E) × At cards k c × (c.ticket ≡ Some t)
   pub rest : List E
   pub beyond : log ≡ opening ++ rest
   pub long : length rest ≡ serving

@@ -11,7 +11,7 @@ use Rattle.desk_lock.specs.declared.views.View.{View}
 use Rattle.desk_lock.specs.declared.views.View.TheVariants.{Spent, AtDesk, InRoom}
 use Rattle.desk_lock.specs.declared.views.Origin.{Origin}
 use Rattle.desk_lock.specs.Histories.{Continues, AreOfDesks, IsTurn}
-use Rattle.desk_lock.specs.Views.{card, card_of, seen_of, with_card, with_stage}
+use Rattle.desk_lock.specs.Views.{card, card_of, last_of, seen_of, with_card, with_stage}
 use Rattle.desk_lock.specs.Rule.{At, IsHeld}
 
 -- a seat's view, and the slots that it has taken
@@ -32,7 +32,7 @@ room_seat p n s collected carried = (InRoom p n s collected, carried)
 module _ {M E : Type 0} where
   -- a desk draws: the number that was found is its ticket
   abbrev pub Draws : Step (Option M) → Seated M E → ℕ → Seated M E → Type 0
-  Draws st me found w = let c = card_of me.0 in w ≡ (with_card (card (Some found) c.has_turn c.seen) me.0, me.1)
+  Draws st me found w = let c = card_of me.0 in w ≡ (with_card (card (Some found) (Some found) c.has_turn c.seen) me.0, me.1)
 
 module _ {M E G : Type 0} (setting_of : M → G) (follows : M → M → Type 0) (history_of : M → List E)
     (spare_of : M → ℕ) (desk_of : E → ℕ) where
@@ -43,7 +43,7 @@ module _ {M E G : Type 0} (setting_of : M → G) (follows : M → M → Type 0) 
     pub machine : M
     pub place : length log ≡ length (history_of p.machine) + t
     pub held : IsHeld setting_of follows history_of spare_of desk_of p t log machine
-    pub after : w ≡ (AtDesk p k (card (Some t) true log), (0, Some machine) ∷ carried)
+    pub after : w ≡ (AtDesk p k (card (Some t) (Some t) true log), (0, Some machine) ∷ carried)
 
   -- it has its turn, and what it had not seen yet is other desks'
   abbrev pub GetsTurn : Origin M → ℕ → ℕ → Card E → List (ℕ × Option M) → Seated M E → Type 0
@@ -65,7 +65,7 @@ module _ {M E G : Type 0} (setting_of : M → G) (follows : M → M → Type 0) 
     pub machine : M
     pub entry : E
     pub log : List E
-    pub at : me ≡ desk_seat p k (card (Some t) true log) ((0, Some machine) ∷ [])
+    pub at : me ≡ desk_seat p k (card (Some t) (Some t) true log) ((0, Some machine) ∷ [])
     pub grown : history_of machine ≡ log ++ entry ∷ []
     pub by : desk_of entry ≡ k + 1
     pub same : setting_of machine ≡ setting_of p.machine
@@ -77,7 +77,7 @@ module _ {M E : Type 0} (history_of : M → List E) where
   -- again
   abbrev pub AdvancesAt : View E (Origin M) → List (ℕ × Option M) → Seated M E → Type 0
   AdvancesAt v [] w = Unit {0}
-  AdvancesAt v (x ∷ xs) w = (m : M) → x.1 ≡ Some m → w ≡ (with_card (card None false (history_of m)) v, xs)
+  AdvancesAt v (x ∷ xs) w = (m : M) → x.1 ≡ Some m → w ≡ (with_card (card None (last_of v) false (history_of m)) v, xs)
 
   abbrev pub Advances : Step (Option M) → Seated M E → ℕ → Seated M E → Type 0
   Advances st me found w = AdvancesAt me.0 me.1 w
@@ -93,7 +93,7 @@ module _ {M E G Q R : Type 0} (setting_of : M → G) (history_of : M → List E)
   pub record HasServed (p : Origin M) (k t : ℕ) (request : Q) (reply : R)
       (v : View E (Origin M)) (w : Seated M E) : Type 0 where
     pub after : List E
-    pub at : w ≡ desk_seat p k (card None false after) []
+    pub at : w ≡ desk_seat p k (card None (Some t) false after) []
     pub turn : IsTurn desk_of fits (setting_of p.machine) (seen_of v) after (k + 1) request reply
     pub place : length (seen_of v) ≡ length (history_of p.machine) + t
 
@@ -128,7 +128,11 @@ module _ {M E G : Type 0} (setting_of : M → G) (follows : M → M → Type 0) 
     pub long : length rest ≡ min found p.capacity
     pub made : AreOfDesks desk_of n rest
     pub seen : (i : ℕ) (x : ℕ × Card E) → At collected i x → Continues desk_of (x.0 + 1) x.1.seen (history_of machine)
-    pub drawn : (i : ℕ) (x : ℕ × Card E) → At collected i x → (t : ℕ) → x.1.ticket ≡ Some t → t < found
+    pub drawn : (i : ℕ) (x : ℕ × Card E) → At collected i x → (t : ℕ) → x.1.last ≡ Some t → t < found
+    pub newest : (t : ℕ) → t + 1 ≡ found → (i : ℕ) × (x : ℕ × Card E) × At collected i x × (x.1.last ≡ Some t)
+    pub kept : (t : ℕ) → p.capacity ≤ t → t < found → (i : ℕ) × (x : ℕ × Card E) × At collected i x × (x.1.last ≡ Some t)
+    pub alone : (i j : ℕ) (x y : ℕ × Card E) (t : ℕ) → At collected i x → At collected j y
+        → x.1.last ≡ Some t → y.1.last ≡ Some t → x.0 ≡ y.0
 
   -- the room takes the slot with the machine, for the last time
   abbrev pub ShutsAt : View E (Origin M) → List (ℕ × Option M) → ℕ → Seated M E → Type 0

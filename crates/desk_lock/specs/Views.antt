@@ -15,15 +15,19 @@ lasting_ticket capacity None = None
 lasting_ticket capacity (Some t) = keep_if (nat_le capacity t) t
 
 module _ {E : Type 0} where
-  abbrev pub card : Option ℕ → Bool → List E → Card E
-  card ticket has_turn seen = record { ticket = ticket; has_turn = has_turn; seen = seen }
+  abbrev pub card : Option ℕ → Option ℕ → Bool → List E → Card E
+  card ticket last has_turn seen = record { ticket = ticket; last = last; has_turn = has_turn; seen = seen }
 
   module _ {P : Type 0} where
     -- the card that a desk's seat carries
     abbrev pub card_of : View E P → Card E
-    card_of Spent = card None false []
+    card_of Spent = card None None false []
     card_of (AtDesk p k c) = c
-    card_of (InRoom p n s collected) = card None false []
+    card_of (InRoom p n s collected) = card None None false []
+
+    -- the ticket that a desk's seat drew last
+    abbrev pub last_of : View E P → Option ℕ
+    last_of v = (card_of v).last
 
     -- the entries that a desk's seat has seen
     abbrev pub seen_of : View E P → List E
@@ -57,7 +61,7 @@ module _ {E : Type 0} where
     abbrev pub next_desk : (P → List E) → View E P → View E P
     next_desk opening Spent = Spent
     next_desk opening (AtDesk p k c) = Spent
-    next_desk opening (InRoom p n s collected) = AtDesk p n (card None false (opening p))
+    next_desk opening (InRoom p n s collected) = AtDesk p n (card None None false (opening p))
 
     -- the room's seat when it has collected a desk's card
     abbrev pub with_card_of : View E P → View E P → View E P

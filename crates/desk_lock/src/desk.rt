@@ -33,7 +33,7 @@ pub struct Desk<M: Machine> {
     ghost limit: { capacity ≡ (arc_value board).shared.key.capacity },
     ghost idle: { seat.me
         ≡ desk_seat (arc_value board).shared.key place
-        (card (lasting_ticket capacity ticket) false (seen_of seat.me.0)) [] },
+        (card (lasting_ticket capacity ticket) ticket false (seen_of seat.me.0)) [] },
 }
 
 impl<M: Machine> Desk<M> {

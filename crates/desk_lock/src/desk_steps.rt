@@ -2,7 +2,7 @@
 
 ghost use Rattle.std.specs.Prelude.{◌≡◌, ◌==◌, ◌<◌, Option, [], ◌∷◌, Some, None, true, false};
 ghost use Rattle.std.specs.Bool.{MatchBool};
-ghost use Rattle.desk_lock.specs.Views.{card, card_of, seen_of};
+ghost use Rattle.desk_lock.specs.Views.{card, card_of, last_of, seen_of};
 ghost use Rattle.desk_lock.specs.Steps.{HasTurn, GetsTurn, IsTurnDone, HasServed, desk_seat, IsSeatOf};
 
 use crate::board::{Advance, Board, BoardSeat, Count, Draw, Look, MACHINE, SERVING, TICKETS};
@@ -57,10 +57,10 @@ pub(crate) fn stand_back<M: Machine>(board: &Board<M>, seat: &mut BoardSeat<M>)
 pub(crate) fn draw<M: Machine>(board: &Board<M>, seat: &mut BoardSeat<M>, place: u32) -> u64
     requires board { IsSeatOf board.now.shared.table_id seat.old.table_id }
     requires idle { seat.old.me
-        ≡ desk_seat board.now.shared.key place (card None false (seen_of seat.old.me.0)) [] }
+        ≡ desk_seat board.now.shared.key place (card None (last_of seat.old.me.0) false (seen_of seat.old.me.0)) [] }
     ensures same { (seat.new.table_id ≡ seat.old.table_id) × (seat.new.id ≡ seat.old.id) }
     ensures drawn { seat.new.me
-        ≡ desk_seat board.now.shared.key place (card (Some result) false (seen_of seat.old.me.0)) [] }
+        ≡ desk_seat board.now.shared.key place (card (Some result) (Some result) false (seen_of seat.old.me.0)) [] }
 {
     board.shared.fetch_add::<Draw>(seat, TICKETS, 1)
 }
@@ -74,7 +74,7 @@ pub(crate) fn look<M: Machine>(
 ) -> u64
     requires board { IsSeatOf board.now.shared.table_id seat.old.table_id }
     requires drawn { seat.old.me
-        ≡ desk_seat board.now.shared.key place (card (Some ticket) false (seen_of seat.old.me.0)) [] }
+        ≡ desk_seat board.now.shared.key place (card (Some ticket) (Some ticket) false (seen_of seat.old.me.0)) [] }
     requires below { ticket < board.now.shared.key.capacity }
     ensures same { (seat.new.table_id ≡ seat.old.table_id) × (seat.new.id ≡ seat.old.id) }
     ensures turn { MatchBool (result == ticket)
@@ -89,7 +89,7 @@ pub(crate) fn look<M: Machine>(
 fn spin<M: Machine>(board: &Board<M>, seat: &mut BoardSeat<M>, place: u32, ticket: u64) -> bool
     requires board { IsSeatOf board.now.shared.table_id seat.old.table_id }
     requires drawn { seat.old.me
-        ≡ desk_seat board.now.shared.key place (card (Some ticket) false (seen_of seat.old.me.0)) [] }
+        ≡ desk_seat board.now.shared.key place (card (Some ticket) (Some ticket) false (seen_of seat.old.me.0)) [] }
     requires below { ticket < board.now.shared.key.capacity }
     ensures same { (seat.new.table_id ≡ seat.old.table_id) × (seat.new.id ≡ seat.old.id) }
     ensures turn { MatchBool result
@@ -116,7 +116,7 @@ pub(crate) fn wait<M: Machine, R: Wait>(
 )
     requires board { IsSeatOf board.now.shared.table_id seat.old.table_id }
     requires drawn { seat.old.me
-        ≡ desk_seat board.now.shared.key place (card (Some ticket) false (seen_of seat.old.me.0)) [] }
+        ≡ desk_seat board.now.shared.key place (card (Some ticket) (Some ticket) false (seen_of seat.old.me.0)) [] }
     requires below { ticket < board.now.shared.key.capacity }
     ensures same { (seat.new.table_id ≡ seat.old.table_id) × (seat.new.id ≡ seat.old.id) }
     ensures turn { GetsTurn M.setting M.follows M.history M.spare M.desk_of
@@ -171,7 +171,7 @@ pub(crate) fn advance<M: Machine>(
         board.now.shared.key place ticket seat.old.me }
     ensures same { (seat.new.table_id ≡ seat.old.table_id) × (seat.new.id ≡ seat.old.id) }
     ensures idle { (m : M) → seat.old.me.1 ≡ (0, Some m) ∷ []
-        → seat.new.me ≡ desk_seat board.now.shared.key place (card None false (M.history m)) [] }
+        → seat.new.me ≡ desk_seat board.now.shared.key place (card None (Some ticket) false (M.history m)) [] }
 {
     board.shared.fetch_add::<Advance<M>>(seat, SERVING, 1);
 }

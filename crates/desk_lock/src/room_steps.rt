@@ -55,7 +55,7 @@ pub(crate) fn add<M: Machine>(board: &Board<M>, seat: &mut BoardSeat<M>, made: u
     ensures same { (seat.new.table_id ≡ seat.old.table_id) × (result.table_id ≡ seat.old.table_id) }
     ensures working { seat.new.me ≡ room_seat board.now.shared.key (made + 1) working [] [] }
     ensures desk { result.me
-        ≡ desk_seat board.now.shared.key made (card None false (M.history board.now.shared.key.machine)) [] }
+        ≡ desk_seat board.now.shared.key made (card None None false (M.history board.now.shared.key.machine)) [] }
 {
     board.shared.split_seat::<NextDesk<M>>(seat)
 }

@@ -16,6 +16,8 @@ pub struct Origin<M> {
 pub struct Card<E> {
     /// The ticket in hand.
     pub ticket: Option<u64>,
+    /// The ticket that was drawn last, in hand or served.
+    pub last: Option<u64>,
     /// Whether it is the desk's turn, so that the slot is its own.
     pub has_turn: bool,
     /// The entries that the desk has seen.

@@ -11,7 +11,7 @@ use Rattle.desk_lock.proofs.desk.Desk.call.Goals as goal
 call_answered : {M E G Q R : Type 0} (setting_of : M → G) (history_of : M → List E) (desk_of : E → ℕ) (fits : G → List E → ℕ → Q → E → R → Type 0)
     (p : Origin M) (k t : ℕ) (request : Q) (reply : R) (start old drawn waited served woken : Seated M E)
     → old ≡ start
-    → drawn ≡ desk_seat p k (card (Some t) false (seen_of old.0)) []
+    → drawn ≡ desk_seat p k (card (Some t) (Some t) false (seen_of old.0)) []
     → Continues desk_of (k + 1) (card_of drawn.0).seen (seen_of waited.0)
     → HasServed setting_of history_of desk_of fits p k t request reply waited.0 served
     → woken ≡ served
