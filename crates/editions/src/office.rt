@@ -1,6 +1,6 @@
 //! The office.
 
-ghost use Rattle.std.specs.Prelude.{◌≡◌, ◌+◌, ◌<◌, ◌≤◌, ◌^◌, [], nat_le, length, vec_len, vec_capacity, All, Err, IfOk, IfErr, IfSome};
+ghost use Rattle.std.specs.Prelude.{◌≡◌, ◌≢◌, ◌+◌, ◌<◌, ◌≤◌, ◌^◌, [], nat_le, length, vec_len, vec_capacity, All, Err, IfOk, IfErr, IfSome};
 ghost use Rattle.aircraft_file.specs.Craft.{AreApart};
 ghost use Rattle.desk_base.specs.Faults.{Rose};
 ghost use Rattle.editions.specs.Acts.{IsWithinLimits};
@@ -87,9 +87,10 @@ fn answer_at(
 /// The rows that the keeper has.
 fn load<K: Keeper>(alloc: Global, keeper: &mut K) -> Result<Vec<KeptRow>, StartFault>
     ensures loaded { IfOk result (λ rows. AreLoaded (K.tables keeper.old) rows.items) }
-    ensures same { K.tables keeper.new ≡ K.tables keeper.old }
+    ensures same_tables { K.tables keeper.new ≡ K.tables keeper.old }
     ensures refused { IfErr result IsLoadFault }
     ensures cause { result ≡ Err StartFault.Keeper → Rose (K.faults keeper.old) (K.faults keeper.new) }
+    ensures same_count { result ≢ Err StartFault.Keeper → K.faults keeper.new ≡ K.faults keeper.old }
     ensures never_falls { K.faults keeper.old ≤ K.faults keeper.new }
 {
     match keeper.load(alloc) {
@@ -123,7 +124,11 @@ impl Office {
         ensures started { IfOk result (IsStarted fleet.items capacity (K.tables keeper.old)) }
         ensures tables { IfOk result (HasTables (K.tables keeper.new)) }
         ensures refused { IfErr result (IsRefusedStart fleet.items (K.tables keeper.old)) }
+
+        // Whether the office starts or not, the keeper's rows stay as they were, and its count rises with its own refusal alone.
+        ensures same_tables { K.tables keeper.new ≡ K.tables keeper.old }
         ensures cause { result ≡ Err StartFault.Keeper → Rose (K.faults keeper.old) (K.faults keeper.new) }
+        ensures same_count { result ≢ Err StartFault.Keeper → K.faults keeper.new ≡ K.faults keeper.old }
         ensures never_falls { K.faults keeper.old ≤ K.faults keeper.new }
     {
         let rows = load(alloc, keeper)?;

@@ -51,4 +51,4 @@ returns-clause-tables g c =
     let rows = c.in_ok-rows.rows.items in
     tables-start (record { fleet = c.args.fleet.items; rows = rows; opening = c.in_ok-found.found.opening.items; history = c.in_ok-history.history.items; spare = c.args.capacity })
     (g.K.Keeper.tables c.load.new.keeper) c.in_ok-history.ensures.empty
-    (subst (λ o. AreAllRows o rows) (sym c.in_ok-rows.ensures.same) c.in_ok-rows.ensures.loaded.all)
+    (subst (λ o. AreAllRows o rows) (sym c.in_ok-rows.ensures.same_tables) c.in_ok-rows.ensures.loaded.all)
