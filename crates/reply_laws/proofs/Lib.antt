@@ -1,0 +1,9 @@
+pub mod RoundLemmas
+pub mod ChainLemmas
+pub mod PayLemmas
+pub mod TaskLemmas
+pub mod VerdictLemmas
+pub mod MassLemmas
+pub mod SheetLemmas
+pub mod AgreeLemmas
+pub mod ReplyLemmas
