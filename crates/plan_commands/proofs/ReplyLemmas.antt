@@ -102,7 +102,7 @@ placing-answered t budget _ _ (nothing_fits c none claim evidence) = is_nothing_
 placing-answered t budget _ _ (over_budget more) = is_over_budget
 
 pub judgement-answered : (t : Problem) (c : Certificate) (outcome : Outcome) (text : List ℕ) → IsJudgement t c outcome text → IsAnswered outcome
-judgement-answered t c _ _ (good is) = is_done
+judgement-answered t c _ _ (good is so) = is_done
 judgement-answered t c _ _ (rejected reason first) = is_rejected
 
 pub summary-answered : (number : ℕ) (outcome : Outcome) (text : List ℕ) → IsSummary number outcome text → IsAnswered outcome
@@ -116,7 +116,7 @@ tree-placing-answered t looks _ _ (tree_nothing_fits c none claim is_good) = is_
 tree-placing-answered t looks _ _ undecided = is_undecided
 
 pub tree-judgement-answered : (t : Problem) (c : ListedTrees) (outcome : Outcome) (text : List ℕ) → IsTreeJudgement t c outcome text → IsAnswered outcome
-tree-judgement-answered t c _ _ (good_trees is) = is_done
+tree-judgement-answered t c _ _ (good_trees is so) = is_done
 tree-judgement-answered t c _ _ (rejected_trees reason line not_good first is) = is_rejected
 
 answer-answered : (files : Files) (job : Job) (outcome : Outcome) (text : List ℕ) → IsAnswer files job outcome text → IsAnswered outcome

@@ -3,6 +3,7 @@ pub mod Commands
 pub mod Halts
 pub mod Outcomes
 pub mod ReplyText
+pub mod Claims
 pub mod TreeReply
 pub mod Reply
 pub mod Run

@@ -25,6 +25,7 @@ use Rattle.plan_commands.specs.declared.ending.Outcome.TheVariants.{Done, Usage,
 use Rattle.plan_commands.specs.Arguments.{Job, IsCommand, AreInvalid, usual_budget}
 use Rattle.plan_commands.specs.Arguments.Job.{place, check, best, check_trees, generate}
 use Rattle.plan_commands.specs.ReplyText.{longest_task, longest_certificate, IsFaultLine, IsCertificateFaultLine, long_text, usage_text, good_text, rejected_text, plan_summary, none_summary, budget_summary}
+use Rattle.plan_commands.specs.Claims.{IsTrueOf}
 use Rattle.plan_commands.specs.TreeReply.{AreTreesIn, IsTreeRefusal, IsTreePlacing, IsTreeJudgement}
 
 -- Files -----------------------------------------------------------------------------------------
@@ -81,9 +82,10 @@ AreRefusedTrees files name t line = Holds files name (λ bytes. IsTreeRefusal t 
 
 -- Answers ---------------------------------------------------------------------------------------
 
--- the near certificate of the task, of which no more prefixes are near than the budget
+-- the near certificate of the task, which is good; and no more prefixes are near than the budget
 pub record IsEvidence (t : Problem) (budget : ℕ) (c : Certificate) : Type 0 where
   pub near : IsNearCertificate t c
+  pub good : IsGoodFor t c
   pub enough : AreAtMost (IsNear t) budget
 
 -- the placement of a task with a budget: an outcome and its text
@@ -99,7 +101,8 @@ pub data IsPlacing (t : Problem) (budget : ℕ) : Outcome → List ℕ → Type 
 
 -- the judgement of a certificate for a task
 pub data IsJudgement (t : Problem) (c : Certificate) : Outcome → List ℕ → Type 0 where
-  good : IsGoodFor t c → IsJudgement t c Done (good_text c.claim)
+  -- it is good, so that what it claims is true
+  good : IsGoodFor t c → IsTrueOf t (claimed c.claim) → IsJudgement t c Done (good_text c.claim)
   -- this is the first reason for which it is not good
   rejected : (reason : Reject) → IsFirstReason t (claimed c.claim) c.cuts c.expanded reason
       → IsJudgement t c Rejected (rejected_text t reason)

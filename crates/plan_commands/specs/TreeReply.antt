@@ -11,6 +11,7 @@ use Rattle.certificate.specs.declared.fault.CertFault.{CertFault}
 use Rattle.tree_checker.specs.GoodTrees.{IsGoodTrees}
 use Rattle.tree_checker.specs.FirstReason.{IsRejected}
 use Rattle.tree_checker.specs.declared.rejection.TreeRejection.{TreeRejection}
+use Rattle.plan_commands.specs.Claims.{IsTrueOf}
 use Rattle.plan_commands.specs.declared.ending.Outcome.{Outcome}
 use Rattle.plan_commands.specs.declared.ending.Outcome.TheVariants.{Done, NothingFits, Undecided, Rejected}
 use Rattle.plan_commands.specs.ReplyText.{longest_certificate, long_text, IsCertificateFaultLine, IsTreeRejectionLine, good_text, tree_evidence_text, undecided_text}
@@ -41,7 +42,8 @@ pub data IsTreePlacing (t : Problem) (looks : ℕ) : Outcome → List ℕ → Ty
 
 -- the judgement of a certificate of trees for a task
 pub data IsTreeJudgement (t : Problem) (c : ListedTrees) : Outcome → List ℕ → Type 0 where
-  good : IsGoodTrees t c → IsTreeJudgement t c Done (good_text c.claim)
+  -- it is good, so that what it claims is true
+  good : IsGoodTrees t c → IsTrueOf t (claimed c.claim) → IsTreeJudgement t c Done (good_text c.claim)
   -- it is not good, and this is the first reason
   rejected : (reason : TreeRejection) (line : List ℕ) → (IsGoodTrees t c → ⊥) → IsRejected t c reason → IsTreeRejectionLine reason line
       → IsTreeJudgement t c Rejected line

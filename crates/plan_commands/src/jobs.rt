@@ -5,7 +5,8 @@ ghost use Rattle.desk_base.specs.Faults.{Rose};
 ghost use Rattle.hold_parts.specs.declared.parts.Item.{Item};
 ghost use Rattle.certificate.specs.Evidence.{claimed};
 ghost use Rattle.generated_load.specs.Load.{generated_problem};
-ghost use Rattle.placer.specs.Answers.{IfBest};
+ghost use Rattle.cert_checker.specs.Claims.{IsGoodFor};
+ghost use Rattle.placer.specs.Answers.{IfBest, IfCertified};
 ghost use Rattle.plan_commands.specs.Commands.{job_of};
 ghost use Rattle.plan_commands.specs.Outcomes.{outcome_of, summary_outcome, IsSummaryText};
 ghost use Rattle.plan_commands.specs.Halts.{IfBadInput};
@@ -39,11 +40,27 @@ fn outcome_of(answer: &Answer) -> Outcome
     }
 }
 
+/// The certificate of an answer, if it has one, is good. The call does nothing: it is there for its contract.
+fn has_good_evidence(answer: &Answer)
+    ensures { IfCertified answer.now (λ it. IsGoodFor it.task it.certificate) }
+{
+    match answer {
+        Answer::Best(proven) => {
+            let _good = proven.certificate();
+        }
+        Answer::NoneFits(no_plan) => {
+            let _good = no_plan.certificate();
+        }
+        Answer::Budget(_) => {}
+    }
+}
+
 /// The best placement of a task.
 fn placing(alloc: Global, task: &Task, budget: u32) -> Result<Reply, NoMemory>
     ensures { IfOk result (λ reply. IsPlacing task.now budget reply.outcome reply.text.items) }
 {
     let answer = place(alloc, task, budget)?;
+    has_good_evidence(&answer);
     Ok(Reply {
         outcome: outcome_of(&answer),
         text: write_answer(alloc, task, &answer)?,
@@ -54,6 +71,7 @@ fn placing(alloc: Global, task: &Task, budget: u32) -> Result<Reply, NoMemory>
 fn judgement(alloc: Global, task: &Task, certificate: &Certificate) -> Result<Reply, NoMemory>
     ensures { IfOk result (λ reply. IsJudgement task.now certificate.now reply.outcome reply.text.items) }
 {
+    let _lawful = task.items();
     match check(task, certificate) {
         Ok(()) => Ok(Reply {
             outcome: Outcome::Done,
@@ -174,6 +192,7 @@ fn summary(alloc: Global, number: u32) -> Result<Reply, NoMemory>
 {
     let task = generated_task(alloc, number)?;
     let answer = place(alloc, &task, USUAL_BUDGET)?;
+    has_good_evidence(&answer);
     Ok(Reply {
         outcome: summary_outcome(&answer),
         text: summary_text(alloc, number, &task, &answer)?,

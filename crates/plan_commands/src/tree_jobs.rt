@@ -14,7 +14,7 @@ use plan_text::push_plan;
 use std::alloc::Global;
 use telex::Builder;
 use tree_certificate::{TreeCertificate, push_trees};
-use tree_checker::{NoPlanByTrees, ProvenByTrees, check_trees};
+use tree_checker::{NoPlanByTrees, ProvenByTrees, check_trees, tree_certificate_laws};
 use tree_search::{TreeAnswer, find_best};
 
 /// The plan that is proved to be the best, and the certificate for it.
@@ -76,6 +76,8 @@ pub fn judgement_of_trees(
     ensures { IfOk result (λ reply.
         IsTreeJudgement task.now (listed_trees certificate.now) reply.outcome reply.text.items) }
 {
+    let _lawful = task.items();
+    tree_certificate_laws();
     match check_trees(alloc, task, certificate) {
         Ok(()) => Ok(Reply {
             outcome: Outcome::Done,

@@ -2,11 +2,14 @@ use Rattle.std.proofs.Common.{refl, subst, sym}
 use Rattle.plan_commands.specs.declared.ending.Outcome.TheVariants.{Done, Rejected}
 use Rattle.plan_commands.specs.Reply.{IsJudgement}
 use Rattle.plan_commands.specs.Reply.IsJudgement.{good, rejected}
+use Rattle.plan_commands.proofs.JobLemmas.{good-true}
 use Rattle.plan_commands.proofs.jobs.judgement.Goals as goal
 
 pub returns-in_ok-good_line-in-Ok : goal.returns-in_ok-good_line-in-Ok
 returns-in_ok-good_line-in-Ok c =
-    subst (IsJudgement c.args.task.now c.args.certificate.now Done) (sym c.in_ok-good_line-in-Ok.ensures) (good (c.in-Ok.ensures.good.0 refl))
+    let is = c.in-Ok.ensures.good.0 refl in
+    subst (IsJudgement c.args.task.now c.args.certificate.now Done) (sym c.in_ok-good_line-in-Ok.ensures)
+    (good is (good-true c.args.task.now c.args.certificate.now c.items-lawful.ensures.lawful is))
 
 pub returns-in_ok-rejected_line-in-Err : goal.returns-in_ok-rejected_line-in-Err
 returns-in_ok-rejected_line-in-Err c =

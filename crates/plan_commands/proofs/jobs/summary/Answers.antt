@@ -5,4 +5,4 @@ pub returns : goal.returns
 returns c =
     rw c.summary_outcome.ensures
     (is-summary c.args.number c.in_ok-task.task c.in_ok-answer.answer _ c.in_ok-task.ensures
-    c.in_ok-answer.ensures c.in_ok-summary_text.ensures)
+    c.in_ok-answer.ensures c.has_good_evidence.ensures c.in_ok-summary_text.ensures)
