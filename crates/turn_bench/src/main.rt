@@ -3,6 +3,8 @@
 #![tactic(auto)]
 
 #[cfg(test)]
+mod long_turns;
+#[cfg(test)]
 mod room_tests;
 #[cfg(test)]
 mod tests;
