@@ -7,4 +7,8 @@ mod doors;
 #[cfg(test)]
 mod examples;
 #[cfg(test)]
+mod flags;
+#[cfg(test)]
+mod other_doors;
+#[cfg(test)]
 mod planning;

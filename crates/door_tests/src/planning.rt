@@ -1,19 +1,16 @@
-// A desk plans while another one asks.
-ghost use Rattle.std.specs.Prelude.{◌≡◌, [], IfSome};
-
+// Desks at work at the same time: one asks while another one plans, and links wait for one another.
 use crate::examples::{MORNING, MORNING_ANSWERS, PLAN, joined, link, office};
+use crate::flags::{Flag, FlagDoor, FlagLink};
 use desk_base::NoMemory;
-use desk_http::{ConnEnd, Tools, serve_connection};
-use desk_lock::{Desk, Room};
-use desk_service::Bench;
+use desk_serve::{DoorsRun, serve_doors};
+use editions::{Act, Entry};
 use hold_limits::Task;
 use keeper::{Keeper, MemoryKeeper};
-use load_io::MemoryLink;
 use placer::{Answer, Direct, Placing};
 use std::alloc::Global;
-use std::cell::Cell;
 use std::sync::Wait;
 use std::test::Fail;
+use std::thread::Threads;
 
 /// The fuel of the flight, at the edition that is planned.
 const FUEL: &str = "\
@@ -36,6 +33,14 @@ const ROW: &str = "\
     Content-Length: 0\r\n\
     \r\n";
 
+/// Its answer.
+const NO_FLIGHT: &str = "\
+    HTTP/1.1 404 Not Found\r\n\
+    Content-Type: application/json\r\n\
+    Content-Length: 21\r\n\
+    \r\n\
+    {\"error\":\"no flight\"}";
+
 /// The answer to a plan whose figures another desk has changed.
 const STALE_ANSWER: &str = "\
     HTTP/1.1 409 Conflict\r\n\
@@ -44,99 +49,183 @@ const STALE_ANSWER: &str = "\
     \r\n\
     {\"error\":\"stale\",\"newest\":8}";
 
-/// A desk at a link.
+/// The last entries, and the row of the flight, which has no plan.
+const STALE_END: &str = "\
+    |1 take 7|2 set 7|1 install 7|FLIGHT 2\n\
+    leg XX210 12 DAIAB FRA ARN\n\
+    edition 8\n\
+    stage working\n\
+    releases 0\n\
+    dry 42000 50.00000 2 4\n\
+    fuel 200 9100 6000\n\
+    limits 73500 66000\n\
+    zone 50 4 2\n\
+    zone 70 6 1\n\
+    container AKE10001XX 1000\n\
+    container AKE10002XX 800\n\
+    loose 51 200 8\n\
+    END\n";
+
+/// A search that raises a flag when it is called, and waits for another one. Where that does not rise in time, a third one does.
 #[derive(Drop)]
-struct Seat {
-    desk: Desk<Bench<MemoryKeeper>>,
-    tools: Tools,
-    link: MemoryLink,
+struct Held<'a> {
+    begun: &'a Flag,
+    due: &'a Flag,
+    late: &'a Flag,
 }
 
-impl Seat {
-    /// Serves the link to its end.
-    fn serve<Rt: Wait, P: Placing>(&mut self, rt: &Rt, alloc: Global, placing: &P) -> ConnEnd {
-        serve_connection(
-            rt,
-            alloc,
-            &mut self.tools,
-            &mut self.desk,
-            &mut self.link,
-            placing,
-        )
-    }
-}
-
-/// A search that begins when another desk has served its link to the end. So that desk does not wait for the search.
-#[derive(Drop)]
-struct Interrupted<'a, Rt> {
-    rt: &'a Rt,
-    other: Cell<Option<Seat>>,
-}
-
-impl<Rt: Wait> Placing for Interrupted<'_, Rt> {
+impl Placing for Held<'_> {
     fn place(&self, alloc: Global, task: &Task, budget: u32) -> Result<Answer, NoMemory> {
-        if let Some(mut other) = self.other.take() {
-            other.serve(self.rt, alloc, &Direct);
-            self.other.set(Some(other));
+        self.begun.raise();
+        if !self.due.wait() {
+            self.late.raise();
         }
         Direct.place(alloc, task, budget)
     }
 }
 
-/// An office without flights, with room for a hundred entries, as the machine of a room.
-fn bench<K: Keeper + Drop>(alloc: Global, keeper: K) -> Option<Bench<K>>
-    ensures unasked { IfSome result (λ bench. bench.books.history ≡ []) }
-    ensures reserved { IfSome result (λ bench. bench.books.spare ≡ 100) }
-{
-    let (office, keeper) = office(alloc, keeper, 100).ok()?;
-    Some(Bench::new(office, keeper))
+/// What an office leaves that served both doors.
+fn served<'a, Rt: Threads + Wait + Sync, P: Placing + Sync>(
+    rt: &Rt,
+    alloc: Global,
+    first: FlagDoor<'a>,
+    second: FlagDoor<'a>,
+    placing: &P,
+) -> Result<DoorsRun<MemoryKeeper, FlagDoor<'a>>, NoMemory> {
+    let (office, keeper) = office(alloc, MemoryKeeper::new(alloc), 100)?;
+    let mut doors = Vec::with_capacity(alloc, 2)?;
+    doors.push_reserved(first);
+    doors.push_reserved(second);
+    Ok(serve_doors(rt, alloc, office, keeper, doors, placing))
 }
 
-/// Two desks of one office, the first one at a link with the day up to its plan, the second one at a link with this text.
-fn two_seats(alloc: Global, text: &str) -> Option<(Seat, Seat)> {
-    let bench = bench(alloc, MemoryKeeper::new(alloc))?;
-    let Ok((_, mut desks)) = Room::start(alloc, bench, 2, 100) else {
-        return None;
-    };
-    let second = Seat {
-        desk: desks.pop()?,
-        tools: Tools::new(alloc).ok()?,
-        link: link(alloc, &[text]).ok()?,
-    };
-    let first = Seat {
-        desk: desks.pop()?,
-        tools: Tools::new(alloc).ok()?,
-        link: link(alloc, &[MORNING, PLAN]).ok()?,
-    };
-    Some((first, second))
+/// What an entry asked, and of which edition, as far as the tests have it.
+fn words_of(act: &Act) -> (&'static str, u32) {
+    match act {
+        Act::Take { edition } => ("take", *edition),
+        Act::Set { edition, .. } => ("set", *edition),
+        Act::Install { edition, .. } => ("install", *edition),
+        _ => ("other", 0),
+    }
 }
 
-/// What the second desk writes while the first one plans, and then what the first one writes.
-fn written_while_planning<Rt: Wait>(rt: &Rt, alloc: Global, text: &str) -> Option<Vec<u8>> {
-    let (mut first, second) = two_seats(alloc, text)?;
-    let placing = Interrupted {
-        rt,
-        other: Cell::new(Some(second)),
+/// Adds the last three entries to the text.
+fn push_last(text: &mut String, history: &[Entry]) -> Result<(), NoMemory> {
+    for entry in &history[history.len().saturating_sub(3)..] {
+        let (word, edition) = words_of(&entry.act);
+        write!(text, "|{} {word} {edition}", entry.desk)?;
+    }
+    Ok(())
+}
+
+/// What an office leaves, as a text: how it ended, what was written to the link of each door, the last three entries, and the rows.
+fn told(alloc: Global, mut run: DoorsRun<MemoryKeeper, FlagDoor<'_>>) -> Result<Vec<u8>, NoMemory> {
+    let mut text = format!(in alloc; "{:?}", run.ending)?.into_bytes();
+    for door in &run.doors {
+        text.push(b'|')?;
+        text.extend_from_slice(door.written())?;
+    }
+    let mut last = String::new(alloc);
+    push_last(&mut last, &run.history)?;
+    last.push('|')?;
+    text.extend_from_slice(last.as_bytes())?;
+    for row in &run.keeper.load(alloc).map_err(|_| NoMemory)? {
+        text.extend_from_slice(row.bytes.as_slice())?;
+    }
+    Ok(text)
+}
+
+/// What the office leaves where the second desk sets the fuel while the first one plans.
+fn run_while_planning<Rt: Threads + Wait + Sync>(
+    rt: &Rt,
+    alloc: Global,
+) -> Result<Vec<u8>, NoMemory> {
+    let (now, planning, answered) = (Flag::new(), Flag::new(), Flag::new());
+    let (late, other) = (Flag::new(), Flag::new());
+    now.raise();
+    let first = FlagLink {
+        link: link(alloc, &[MORNING, PLAN])?,
+        answer: STALE_ANSWER,
+        begun: &other,
+        due: &now,
+        answered: &other,
     };
-    first.serve(rt, alloc, &placing);
-    let second = placing.other.take()?;
-    let mut written = second.link.written().to_vec(alloc).ok()?;
-    written.extend_from_slice(first.link.written()).ok()?;
-    Some(written)
+    let second = FlagLink {
+        link: link(alloc, &[FUEL])?,
+        answer: FUEL_ANSWER,
+        begun: &other,
+        due: &now,
+        answered: &answered,
+    };
+    let placing = Held {
+        begun: &planning,
+        due: &answered,
+        late: &late,
+    };
+    let first = FlagDoor::new(&now, first);
+    let second = FlagDoor::new(&planning, second);
+    let run = served(rt, alloc, first, second, &placing)?;
+    if late.is_up() {
+        return Ok(Vec::from_slice(alloc, b"planning waited for the other desk")?);
+    }
+    told(alloc, run)
 }
 
 #[test]
 fn planning_waits_for_nobody(rt: HostRuntime) -> Result<(), Fail> {
-    let written = written_while_planning(&rt, rt.alloc(), ROW).ok_or("memory")?;
-    assert!(rt; written.starts_with(b"HTTP/1.1 404 Not Found"));
-    assert!(rt; written.ends_with(b"\nEND\n"));
-    Ok(())
+    let text = run_while_planning(&rt, rt.alloc())?;
+    let due = [
+        "Ok(Closed)|",
+        MORNING_ANSWERS,
+        STALE_ANSWER,
+        "|",
+        FUEL_ANSWER,
+        STALE_END,
+    ];
+    if text == joined(rt.alloc(), &due)? {
+        return Ok(());
+    }
+    Err(Fail::new(String::from_utf8(text)?.as_str()))
+}
+
+/// What the office leaves where a link at each door waits for the one at the other.
+fn run_of_links_that_wait<Rt: Threads + Wait + Sync>(
+    rt: &Rt,
+    alloc: Global,
+) -> Result<Vec<u8>, NoMemory> {
+    let (now, begun, answered, other) = (Flag::new(), Flag::new(), Flag::new(), Flag::new());
+    now.raise();
+    let first = FlagLink {
+        link: link(alloc, &[ROW])?,
+        answer: NO_FLIGHT,
+        begun: &begun,
+        due: &answered,
+        answered: &other,
+    };
+    let second = FlagLink {
+        link: link(alloc, &[ROW])?,
+        answer: NO_FLIGHT,
+        begun: &other,
+        due: &begun,
+        answered: &answered,
+    };
+    let first = FlagDoor::new(&now, first);
+    let second = FlagDoor::new(&now, second);
+    told(alloc, served(rt, alloc, first, second, &Direct)?)
 }
 
 #[test]
-fn a_plan_of_figures_that_another_desk_changed_is_stale(rt: HostRuntime) -> Result<(), Fail> {
-    let due = joined(rt.alloc(), &[FUEL_ANSWER, MORNING_ANSWERS, STALE_ANSWER])?;
-    let written = written_while_planning(&rt, rt.alloc(), FUEL).ok_or("memory")?;
-    assert!(rt; written == due);
-    Ok(())
+fn links_that_wait_for_one_another_are_served(rt: HostRuntime) -> Result<(), Fail> {
+    let text = run_of_links_that_wait(&rt, rt.alloc())?;
+    let due = [
+        "Ok(Closed)|",
+        NO_FLIGHT,
+        "|",
+        NO_FLIGHT,
+        "|2 other 0|1 other 0|",
+    ];
+    if text == joined(rt.alloc(), &due)? {
+        return Ok(());
+    }
+    Err(Fail::new(String::from_utf8(text)?.as_str()))
 }
