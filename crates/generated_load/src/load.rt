@@ -134,7 +134,7 @@ fn hold(alloc: Global) -> Result<Hold, NoMemory>
     }
 }
 
-/// The load that is made from the number: 48 containers of different masses for 28 positions in the fore hold and 36 in
+/// The load that is made from the number: 48 containers for 28 positions in the fore hold and 36 in
 /// the aft one. It is a lawful task for every number.
 pub fn generated_task(alloc: Global, number: u32) -> Result<Task, NoMemory>
     ensures { IfOk result (λ task. task ≡ generated_problem number) }
