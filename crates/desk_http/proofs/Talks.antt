@@ -46,11 +46,11 @@ module _ {L : Type 0} (input_of output_of : L → Option (List ℕ)) (reads_of w
       subst (λ (d : ℕ). Steps input_of output_of reads_of writes_of s d full full' seen seen' heard heard' over b c is_final r) number
       (subst (λ (x : Setting). Steps input_of output_of reads_of writes_of x desk' full full' seen seen' heard heard' over b c is_final r) same step)
 
-module _ {L : Type 0} (input_of output_of : L → Option (List ℕ)) (reads_of writes_of : L → ℕ) (s : Setting) (desk : ℕ) (first : List Entry) (a : L) where
+module _ {L : Type 0} (input_of output_of : L → Option (List ℕ)) (reads_of writes_of : L → ℕ) (s : Setting) (desk : ℕ) (first : List Entry) (a : L) (full_before : Type 0) where
   -- the connection so far, in which nothing failed
   pub record Talk (full : Type 0) (seen : List Entry) (b : L) (heard : List ℕ) (n : ℕ) : Type 0 where
     pub exchanges : List Exchange
-    pub book : Book s full desk first seen exchanges
+    pub book : Book s full_before full desk first seen exchanges
     pub count : length exchanges ≡ n
     pub asked : AreHeard (input_of a) (requests_of exchanges) (to_come heard (input_of b))
     pub written : Appends (output_of a) (output_of b) (sent exchanges)
@@ -66,8 +66,8 @@ module _ {L : Type 0} (input_of output_of : L → Option (List ℕ)) (reads_of w
     abbrev one : Next → Exchange
     one x = exchange x.request x.asked x.answered.entries x.answer
 
-    booked : (x : Next) → Book s full' desk first seen' (t.exchanges ++ one x ∷ [])
-    booked x = book_more s full full' desk first seen seen' t.exchanges x.request x.asked x.answer x.answered t.book x.read more
+    booked : (x : Next) → Book s full_before full' desk first seen' (t.exchanges ++ one x ∷ [])
+    booked x = book_more s full_before full full' desk first seen seen' t.exchanges x.request x.asked x.answer x.answered t.book x.read more
 
     counted : (x : Next) → length (t.exchanges ++ one x ∷ []) ≡ n + 1
     counted x = length-append t.exchanges (one x ∷ []) ∙ ap (λ (k : ℕ). k + 1) t.count
@@ -108,19 +108,20 @@ module _ {L : Type 0} (input_of output_of : L → Option (List ℕ)) (reads_of w
 
     -- the end of the connection, with these exchanges
     abbrev pub Ends : ConnEnd → Type 0
-    Ends ending = Connected input_of output_of reads_of writes_of s full' desk first seen' a c ending
+    Ends ending = Connected input_of output_of reads_of writes_of s full_before full' desk first seen' a c ending
 
-    finish : (ending : ConnEnd) (exchanges : List Exchange) → Book s full' desk first seen' exchanges → length exchanges ≤ 1000
+    finish : (ending : ConnEnd) (exchanges : List Exchange) → Book s full_before full' desk first seen' exchanges → length exchanges ≤ 1000
         → EndsAs input_of output_of reads_of writes_of ending a c exchanges → Ends ending
     finish ending exchanges b few ends = record {
       entries = entries_of exchanges;
       on = b.on;
       own = b.own;
       served = record { exchanges = exchanges; service = b.service; lacks = b.lacks; made = refl; few = few; ends = ends };
+      stuck = b.stuck;
     }
 
-    unchanged : seen' ≡ seen → Book s full' desk first seen' t.exchanges
-    unchanged same = book_same s full full' desk first seen seen' t.exchanges same more t.book
+    unchanged : seen' ≡ seen → Book s full_before full' desk first seen' t.exchanges
+    unchanged same = book_same s full_before full full' desk first seen seen' t.exchanges same more t.book
 
     few_so_far : length t.exchanges ≤ 1000
     few_so_far = let count = t.count in omega (arith, count, below)
@@ -223,10 +224,10 @@ module _ {L : Type 0} (input_of output_of : L → Option (List ℕ)) (reads_of w
       writes = k.wrote.writes ∙ t.writes;
     }
 
-  pub talk_begins : (full : Type 0) → Talk full first a [] 0
-  talk_begins full = record {
+  pub talk_begins : Talk full_before first a [] 0
+  talk_begins = record {
     exchanges = [];
-    book = book_begins s full desk first;
+    book = book_begins s full_before desk first;
     count = refl;
     asked = none_heard (input_of a);
     written = nothing_sent (output_of a);

@@ -1,5 +1,5 @@
 -- what it is that a link is served
-use Rattle.std.specs.Prelude.{◌≡◌, ◌⊎◌, ◌<◌, ◌≤◌, ℕ, true, List, [], ◌∷◌, ◌++◌, length, take, Option, Some, IfSome}
+use Rattle.std.specs.Prelude.{◌≡◌, ◌⊎◌, ◌<◌, ◌≤◌, ℕ, true, List, [], ◌∷◌, ◌++◌, length, take, All, Option, Some, IfSome}
 use Rattle.desk_base.specs.Faults.{Rose}
 use Rattle.load_io.specs.Sink.{Appends}
 use Rattle.flight_history.specs.declared.entry.Entry.{Entry}
@@ -12,7 +12,7 @@ use Rattle.http_wire.specs.Requests.{BeginsWith, Refuses}
 use Rattle.http_wire.specs.declared.refusals.Refusal.{Refusal}
 use Rattle.desk_service.specs.Places.{GoesOn}
 use Rattle.desk_service.specs.Turns.{Setting, Placed, placed}
-use Rattle.desk_service.specs.Exchanges.{Exchange}
+use Rattle.desk_service.specs.Exchanges.{Exchange, IsLate}
 use Rattle.desk_service.specs.Service.{Service, requests_of, entries_of, most_requests, sent, sent_at}
 use Rattle.desk_http.specs.declared.ending.ConnEnd.{ConnEnd}
 use Rattle.desk_http.specs.declared.ending.ConnEnd.TheVariants as end
@@ -89,9 +89,11 @@ module _ {L : Type 0} (input_of output_of : L → Option (List ℕ)) (reads_of w
     pub few : length exchanges ≤ most_requests
     pub ends : EndsAs ending a b exchanges
 
-  -- what a connection does to the history that its desk has seen: the link is served in it, and its entries are those of the desk
-  pub record Connected (s : Setting) (full : Type 0) (desk : ℕ) (seen seen' : List Entry) (a b : L) (ending : ConnEnd) : Type 0 where
+  -- what a connection does to the history that its desk has seen: the link is served in it, and its entries are those of the desk. Where
+  -- there was no room for an entry before the connection, each request that needs one lacks it
+  pub record Connected (s : Setting) (full_before full : Type 0) (desk : ℕ) (seen seen' : List Entry) (a b : L) (ending : ConnEnd) : Type 0 where
     pub entries : List Placed
     pub on : GoesOn seen seen'
     pub own : placed desk seen' ≡ placed desk seen ++ entries
     pub served : Served s full desk seen' a b entries ending
+    pub stuck : full_before → All (IsLate s desk seen') served.exchanges

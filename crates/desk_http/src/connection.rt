@@ -113,7 +113,7 @@ pub fn serve_connection<Rt, C: Counter<Rt>, L: Link, P: Placing>(
     link: &mut L,
     placing: &P,
 ) -> ConnEnd
-    ensures served { Connected L.left L.content L.read_faults L.write_faults (C.setting counter.old) (C.full counter.new)
+    ensures served { Connected L.left L.content L.read_faults L.write_faults (C.setting counter.old) (C.full counter.old) (C.full counter.new)
         (C.desk counter.old) (C.seen counter.old) (C.seen counter.new) link.old link.new result }
     ensures setting { C.setting counter.new ≡ C.setting counter.old }
     ensures desk { C.desk counter.new ≡ C.desk counter.old }

@@ -18,7 +18,7 @@ use Rattle.editions.specs.declared.starting.StartFault.{StartFault}
 use Rattle.editions.specs.declared.starting.StartFault.TheVariants as start
 use Rattle.desk_run.specs.Faults.{IsNotOpened, HaveRefusedFile, ReportsFile}
 use Rattle.desk_run.specs.Runs.{Line, IsRunOf}
-use Rattle.desk_run.specs.Servable.{CanServe, IsUnrefused}
+use Rattle.desk_run.specs.Servable.{CanOpen, IsUnrefused}
 use Rattle.desk_run.specs.declared.fault.DeskFault.{DeskFault}
 use Rattle.desk_run.specs.declared.fault.DeskFault.TheVariants.{Fleet, Unread, Keeper, BadTable, TooMany, NoMemory}
 use Rattle.desk_http.specs.declared.ending.ConnEnd.TheVariants as end
@@ -45,7 +45,7 @@ refused-reported exposed names held file (BadTable key) refused cause = refused-
 refused-reported exposed names held file TooMany refused cause = refused-no_fleet exposed names cause.fleet file refused cause.of_files
 refused-reported exposed names held file NoMemory refused cause = tt
 
--- A desk can be served --------------------------------------------------------------------------
+-- An office can be opened -------------------------------------------------------------------------
 
 same-start : (exposed : Option Files) (names : List (List ℕ)) (held : Option Tables) (fleet other : List Craft) (fault : StartFault)
     → IsSomeAnd exposed (λ files. IsFleet files names fleet) → IfSome exposed (λ files. IsFleet files names other)
@@ -59,7 +59,7 @@ fleet-unrefused : (exposed : Option Files) (names : List (List ℕ)) (held : Opt
 fleet-unrefused None names held fleet file described cause = described
 fleet-unrefused (Some files) names held fleet file described cause = fleet-not_refused files names fleet file described cause
 
-module _ (exposed : Option Files) (names : List (List ℕ)) (held : Option Tables) (input : Option (List ℕ)) (can : CanServe exposed names held input) where
+module _ (exposed : Option Files) (names : List (List ℕ)) (held : Option Tables) (can : CanOpen exposed names held) where
   pub servable-fleet : (file : RefusedFile) → IsNotOpened exposed names held (Fleet file) → ⊥
   servable-fleet file cause = fleet-unrefused exposed names held can.fleet file can.described cause
 

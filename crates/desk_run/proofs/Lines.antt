@@ -40,11 +40,11 @@ module _ {J : Type 0} (input output : J → Option (List ℕ)) (reads writes : J
   ends-as exchanges end.Served h = to-the-end exchanges wire.Served h
 
   -- how the link was served is how its line was
-  pub connected-line : (s : Setting) (full : Type 0) (desk : ℕ) (seen seen' : List Entry) (ending : ConnEnd)
-      → Connected input output reads writes s full desk seen seen' a b ending
-      → Connected (λ (l : Line). l.input) (λ (l : Line). l.output) (λ (l : Line). l.failed_reads) (λ (l : Line). l.failed_writes) s full desk seen seen'
+  pub connected-line : (s : Setting) (full_before full : Type 0) (desk : ℕ) (seen seen' : List Entry) (ending : ConnEnd)
+      → Connected input output reads writes s full_before full desk seen seen' a b ending
+      → Connected (λ (l : Line). l.input) (λ (l : Line). l.output) (λ (l : Line). l.failed_reads) (λ (l : Line). l.failed_writes) s full_before full desk seen seen'
       (line (input a) (output a) (reads a) (writes a)) (line (input b) (output b) (reads b) (writes b)) ending
-  connected-line s full desk seen seen' ending h = record {
+  connected-line s full_before full desk seen seen' ending h = record {
     entries = h.entries;
     on = h.on;
     own = h.own;
@@ -56,6 +56,7 @@ module _ {J : Type 0} (input output : J → Option (List ℕ)) (reads writes : J
       few = h.served.few;
       ends = ends-as h.served.exchanges ending h.served.ends;
     };
+    stuck = h.stuck;
   }
 
   -- the office that its desk has for itself served the link, and the input and the output ended as the link left them
@@ -64,7 +65,7 @@ module _ {J : Type 0} (input output : J → Option (List ℕ)) (reads writes : J
       → first ≡ record { books = opened; faults = faults } → closed ≡ last.books → faults' ≡ last.faults → opened.history ≡ []
       → opening ≡ closed.opening → history ≡ closed.history → HasTables held' closed → IsLater first last
       → input' ≡ input b → output' ≡ output b → reads' ≡ reads b → writes' ≡ writes b
-      → Connected input output reads writes (setting_of first.books) (last.books.spare ≡ 0) 1 first.books.history last.books.history a b ending
+      → Connected input output reads writes (setting_of first.books) (first.books.spare ≡ 0) (last.books.spare ≡ 0) 1 first.books.history last.books.history a b ending
       → IsServed opened held' faults faults' (line (input a) (output a) (reads a) (writes a)) (line input' output' reads' writes') ending opening history
   office-served opened closed first last faults faults' held' ending opening history input' output' reads' writes'
       begins ends counted unasked opens says tables later moved sent read_faults write_faults served = rw (moved, sent, read_faults, write_faults) record {
@@ -72,6 +73,6 @@ module _ {J : Type 0} (input output : J → Option (List ℕ)) (reads writes : J
         opening_is = opens;
         history_is = says;
         later = rw (ends, counted) (rw begins at later);
-        served = rw (says, ends, sym unasked) (connected-line (setting_of opened) (last.books.spare ≡ 0) 1 opened.history last.books.history ending (rw begins at served));
+        served = rw (says, ends, sym unasked) (connected-line (setting_of opened) (opened.spare ≡ 0) (last.books.spare ≡ 0) 1 opened.history last.books.history ending (rw begins at served));
         tables = tables;
       }

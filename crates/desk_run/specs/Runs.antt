@@ -1,5 +1,5 @@
 -- what a run of a desk leaves
-use Rattle.std.specs.Prelude.{◌≡◌, ℕ, ◌≤◌, List, [], Option, IfSome}
+use Rattle.std.specs.Prelude.{◌≡◌, ◌≢◌, ℕ, ◌+◌, ◌-◌, ◌<◌, ◌≤◌, ◌^◌, List, [], All, count_by, Option, IfSome}
 use Rattle.load_io.specs.Shelf.{Files}
 use Rattle.flight_state.specs.declared.state.FlightState.{FlightState}
 use Rattle.flight_history.specs.declared.entry.Entry.{Entry}
@@ -10,6 +10,8 @@ use Rattle.desk_fleet.specs.Fleet.{IsFleet}
 use Rattle.desk_http.specs.Served.{Connected}
 use Rattle.desk_http.specs.declared.ending.ConnEnd.{ConnEnd}
 use Rattle.desk_service.specs.Alone.{IsLater}
+use Rattle.desk_service.specs.Exchanges.{Exchange}
+use Rattle.desk_service.specs.Laws.{has_status}
 use Rattle.desk_service.specs.Turns.{setting_of}
 
 -- an office reserves so many entries for one connection
@@ -35,7 +37,7 @@ pub record IsServed (opened : Books) (held' : Option Tables) (faults faults' : �
   pub history_is : history ≡ closed.history
   pub later : IsLater (record { books = opened; faults = faults }) (record { books = closed; faults = faults' })
   pub served : Connected (λ (l : Line). l.input) (λ (l : Line). l.output) (λ (l : Line). l.failed_reads) (λ (l : Line). l.failed_writes)
-      (setting_of opened) (closed.spare ≡ 0) 1 [] history before after ending
+      (setting_of opened) (opened.spare ≡ 0) (closed.spare ≡ 0) 1 [] history before after ending
   pub tables : HasTables held' closed
 
 -- an office was opened on the fleet of these files and on these tables, and then served one connection
@@ -48,3 +50,7 @@ pub record IsRunOf (exposed : Option Files) (names : List (List ℕ)) (held held
   pub loaded : ℕ
   pub since : faults ≤ loaded
   pub served : IsServed opened held' loaded faults' before after ending opening history
+  -- no answer is 507: there is room for each entry
+  pub room : All (λ (x : Exchange). x.answer.status ≢ 507) served.served.served.exchanges
+  -- the answers 503 are no more than the failures that the keeper counted, where its count is not at the last value that a counter has
+  pub failures : faults' < 2 ^ 64 - 1 → faults + count_by (has_status 503) served.served.served.exchanges ≤ faults'

@@ -21,9 +21,13 @@ pub record CanStart (fleet : List Craft) (held : Option Tables) : Type 0 where
 abbrev pub IsUnrefused : List ℕ → Type 0
 IsUnrefused input = (requests : List Request) (reason : Refusal) (left : List ℕ) → AreRequests most_requests input requests (wire.RefusedFor reason) left → ⊥
 
--- the files are exposed and describe a fleet, on which an office starts with these tables, and the input is exposed and not refused
-pub record CanServe (exposed : Option Files) (names : List (List ℕ)) (held : Option Tables) (input : Option (List ℕ)) : Type 0 where
+-- the files are exposed and describe a fleet, on which an office starts with these tables
+pub record CanOpen (exposed : Option Files) (names : List (List ℕ)) (held : Option Tables) : Type 0 where
   pub fleet : List Craft
   pub described : IsSomeAnd exposed (λ files. IsFleet files names fleet)
   pub starts : CanStart fleet held
+
+-- and the input is exposed and not refused
+pub record CanServe (exposed : Option Files) (names : List (List ℕ)) (held : Option Tables) (input : Option (List ℕ)) : Type 0 where
+  pub opens : CanOpen exposed names held
   pub unrefused : IsSomeAnd input IsUnrefused

@@ -43,7 +43,9 @@ pub fn open_office<F: Shelf, K: Keeper>(
     ensures counted { result ≡ Err DeskFault.Unread → Rose (F.faults shelf.old) (F.faults shelf.new) }
     ensures uncounted { result ≢ Err DeskFault.Unread → F.faults shelf.new ≡ F.faults shelf.old }
     ensures same_files { F.files shelf.new ≡ F.files shelf.old }
+    ensures same_tables { K.tables keeper.new ≡ K.tables keeper.old }
     ensures cause { result ≡ Err DeskFault.Keeper → Rose (K.faults keeper.old) (K.faults keeper.new) }
+    ensures same_count { result ≢ Err DeskFault.Keeper → K.faults keeper.new ≡ K.faults keeper.old }
     ensures never_falls { K.faults keeper.old ≤ K.faults keeper.new }
 {
     let fleet = fleet_from(alloc, shelf, names)?;
@@ -65,7 +67,9 @@ pub fn open_desk<F: Shelf, K: Keeper>(
     ensures counted { result ≡ Err DeskFault.Unread → Rose (F.faults shelf.old) (F.faults shelf.new) }
     ensures uncounted { result ≢ Err DeskFault.Unread → F.faults shelf.new ≡ F.faults shelf.old }
     ensures same_files { F.files shelf.new ≡ F.files shelf.old }
+    ensures same_tables { K.tables keeper.new ≡ K.tables keeper.old }
     ensures cause { result ≡ Err DeskFault.Keeper → Rose (K.faults keeper.old) (K.faults keeper.new) }
+    ensures same_count { result ≢ Err DeskFault.Keeper → K.faults keeper.new ≡ K.faults keeper.old }
     ensures never_falls { K.faults keeper.old ≤ K.faults keeper.new }
 {
     let office = open_office(alloc, shelf, names, RESERVED, keeper)?;

@@ -84,7 +84,9 @@ pub fn run_desk<Rt, F: Shelf, S: Source, O: Sink, K: Keeper, P: Placing>(
     ensures counted { result.ending ≡ Err DeskFault.Unread → Rose (F.faults shelf.old) (F.faults shelf.new) }
     ensures uncounted { result.ending ≢ Err DeskFault.Unread → F.faults shelf.new ≡ F.faults shelf.old }
     ensures same_files { F.files shelf.new ≡ F.files shelf.old }
+    ensures same_tables { OnErr result.ending (K.tables result.keeper ≡ K.tables keeper) }
     ensures cause { result.ending ≡ Err DeskFault.Keeper → Rose (K.faults keeper) (K.faults result.keeper) }
+    ensures same_count { IfErr result.ending (λ fault. fault ≢ DeskFault.Keeper → K.faults result.keeper ≡ K.faults keeper) }
     ensures never_falls { K.faults keeper ≤ K.faults result.keeper }
 {
     let mut keeper = keeper;

@@ -19,7 +19,8 @@ use Rattle.desk_service.specs.Places.{GoesOn, placed_from}
 use Rattle.desk_service.specs.Several.{IsAfter}
 use Rattle.desk_service.specs.Turns.{Setting, setting_of, placed}
 use Rattle.desk_service.proofs.Places.{placed_others}
-use Rattle.desk_serve.specs.Doors.{Connection, all_entries, keeper_failures, Attended, IsServedDoor, AreServedDoors, EndAs}
+use Rattle.desk_service.proofs.ServiceLaws.{stays_service}
+use Rattle.desk_serve.specs.Doors.{Connection, all_entries, all_exchanges, keeper_failures, Attended, IsServedDoor, AreServedDoors, EndAs}
 use Rattle.desk_serve.specs.Bays.{OfficeDesk, desk_setting, ending_of, Worked, AllWorked}
 use Rattle.desk_serve.specs.Service.{IsOneHistory}
 use Rattle.desk_serve.specs.declared.ending.DoorsEnd.{DoorsEnd}
@@ -62,6 +63,7 @@ module _ {D L : Type 0} (coming_of handed_of : D → Option (List L)) (faults_of
         record {
           own = ap (placed desk) c.is ∙ (placed_others desk_of desk last c.rest c.others
               ∙ (a.own ∙ ap (λ es. es ++ all_entries a.connections) (ap (placed desk) none ∙ placed_none desk)));
+          whole = stays_service s desk last history (all_exchanges a.connections) a.whole on;
           served = all_served_on coming_of handed_of faults_of input_of output_of reads_of writes_of s full full' desk last history a.connections more on a.served;
           closed = closed;
           handles = a.handles;
@@ -133,6 +135,7 @@ module _ {D L : Type 0} (coming_of handed_of : D → Option (List L)) (faults_of
         let door = doors.each i connections d d' there at at' in
         record {
           own = door.own;
+          whole = door.whole;
           served = all_served_on coming_of handed_of faults_of input_of output_of reads_of writes_of s (length closed.books.history ≡ capacity) (closed.books.spare ≡ 0) (i + 1) history history connections
               (none_spare opened closed capacity reserved none after) (record { rest = []; is = sym (append-nil history) }) door.served;
           closed = door.closed;

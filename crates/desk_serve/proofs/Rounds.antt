@@ -4,19 +4,20 @@ use Rattle.std.specs.List.{All, flat_map}
 use Rattle.std.proofs.lemmas.Bool.{false≢true}
 use Rattle.std.proofs.lemmas.List.{map-append}
 use Rattle.std.proofs.lemmas.Grind.{flat_map-append}
-use Rattle.std.proofs.lemmas.List.Elements.{All-weaker, All-push, All-nil}
+use Rattle.std.proofs.lemmas.List.Elements.{All-weaker, All-push, All-nil, All-append}
 use Rattle.desk_base.specs.Faults.{Rose}
 use Rattle.load_io.specs.Door.{Brings, NoneComes, HandsBack}
 use Rattle.flight_history.specs.declared.entry.Entry.{Entry}
 use Rattle.desk_service.specs.Places.{GoesOn}
 use Rattle.desk_service.specs.Exchanges.{Exchange, IsServed, IsLate}
+use Rattle.desk_service.specs.Service.{Service}
 use Rattle.desk_service.specs.Turns.{Setting, Placed, placed}
 use Rattle.desk_service.proofs.Places.{same_history, goes_on}
 use Rattle.desk_service.proofs.Serving.{exchange_on, lacking_on}
 use Rattle.desk_http.specs.Served.{Connected}
 use Rattle.desk_http.specs.declared.ending.ConnEnd.{ConnEnd}
 use Rattle.desk_serve.specs.Links.{BringsAll, HandsAllBack}
-use Rattle.desk_serve.specs.Doors.{Connection, all_entries, Handles, IsServedLink, AreServed, Attended}
+use Rattle.desk_serve.specs.Doors.{Connection, all_entries, all_exchanges, Handles, IsServedLink, AreServed, Attended}
 
 -- Links --------------------------------------------------------------------------------------------
 
@@ -48,6 +49,47 @@ still_full : (full full' p : Type 0) → (full → full') → p ⊎ full → p �
 still_full full full' p more (inl a) = inl a
 still_full full full' p more (inr f) = inr (more f)
 
+-- Services -----------------------------------------------------------------------------------------
+
+-- exchanges that are one service, in which an entry is lacking only where there is no room
+pub record Whole (s : Setting) (full : Type 0) (desk : ℕ) (history : List Entry) (exchanges : List Exchange) : Type 0 where
+  pub service : Service s desk history exchanges
+  pub lacks : (service.late ≡ []) ⊎ full
+
+whole_none : (s : Setting) (full : Type 0) (desk : ℕ) (history : List Entry) → Whole s full desk history []
+whole_none s full desk history = record {
+  service = record { early = []; late = []; all = refl; served = All-nil (IsServed s desk history); lacking = All-nil (IsLate s desk history) };
+  lacks = inl refl;
+}
+
+module _ (s : Setting) (full full' : Type 0) (desk : ℕ) (seen seen' : List Entry) (xs ys : List Exchange) (on : GoesOn seen seen') (more : full → full')
+    (v : Service s desk seen xs) (w : Service s desk seen' ys) where
+  -- more exchanges behind them, all of which lack their entries where there was no room before
+  whole_more : (v.late ≡ []) ⊎ full → (w.late ≡ []) ⊎ full' → (full → All (IsLate s desk seen') ys) → Whole s full' desk seen' (xs ++ ys)
+  whole_more (inl none) lacks stuck = record {
+    service = record {
+      early = v.early ++ w.early;
+      late = w.late;
+      all = ap (λ zs. zs ++ ys) (v.all ∙ (ap (λ zs. v.early ++ zs) none ∙ append-nil v.early))
+          ∙ (ap (λ zs. v.early ++ zs) w.all ∙ sym (append_assoc v.early w.early w.late));
+      served = All-append (IsServed s desk seen') v.early w.early
+          (All-weaker (IsServed s desk seen) (IsServed s desk seen') (exchange_on s desk seen seen' on) v.early v.served) w.served;
+      lacking = w.lacking;
+    };
+    lacks = lacks;
+  }
+  whole_more (inr f) lacks stuck = record {
+    service = record {
+      early = v.early;
+      late = v.late ++ ys;
+      all = ap (λ zs. zs ++ ys) v.all ∙ append_assoc v.early v.late ys;
+      served = All-weaker (IsServed s desk seen) (IsServed s desk seen') (exchange_on s desk seen seen' on) v.early v.served;
+      lacking = All-append (IsLate s desk seen') v.late ys
+          (All-weaker (IsLate s desk seen) (IsLate s desk seen') (lacking_on s desk seen seen' on) v.late v.lacking) (stuck f);
+    };
+    lacks = inr (more f);
+  }
+
 -- Connections ---------------------------------------------------------------------------------------
 
 module _ {D L : Type 0} (coming_of handed_of : D → Option (List L)) (faults_of : D → ℕ) (input_of output_of : L → Option (List ℕ)) (reads_of writes_of : L → ℕ) (s : Setting) where
@@ -57,6 +99,8 @@ module _ {D L : Type 0} (coming_of handed_of : D → Option (List L)) (faults_of
     pub on : GoesOn first seen
     pub own : placed desk seen ≡ placed desk first ++ all_entries connections
     pub served : AreServed coming_of handed_of faults_of input_of output_of reads_of writes_of s full desk seen connections
+    pub whole : Service s desk seen (all_exchanges connections)
+    pub lacks : (whole.late ≡ []) ⊎ full
     pub brought : BringsAll (coming_of a) (coming_of b) (map (λ c. c.first) connections)
     pub handed : HandsAllBack (handed_of a) (handed_of b) (map (λ c. c.last) connections)
     pub faults : faults_of b ≡ faults_of a
@@ -67,6 +111,8 @@ module _ {D L : Type 0} (coming_of handed_of : D → Option (List L)) (faults_of
     on = same_history seen seen refl;
     own = sym (append-nil (placed desk seen));
     served = All-nil (IsServedLink coming_of handed_of faults_of input_of output_of reads_of writes_of s full desk seen);
+    whole = (whole_none s full desk seen).service;
+    lacks = (whole_none s full desk seen).lacks;
     brought = brings_none (coming_of a);
     handed = hands_none (handed_of a);
     faults = refl;
@@ -110,10 +156,13 @@ module _ {D L : Type 0} (coming_of handed_of : D → Option (List L)) (faults_of
   module _ (full full' : Type 0) (desk : ℕ) (first seen seen' : List Entry) (a b c d : D) (link link' : L) (ending : ConnEnd) where
     -- a link came in, was served, and was handed back
     pub round_more : Round full desk first seen a b → (full → full') → CameIn link b c
-        → Connected input_of output_of reads_of writes_of s full' desk seen seen' link link' ending
+        → Connected input_of output_of reads_of writes_of s full full' desk seen seen' link link' ending
         → HandsBack (handed_of c) (handed_of d) link' → coming_of d ≡ coming_of c → faults_of d ≡ faults_of c → Round full' desk first seen' a d
     round_more r more came x handed same faults =
         let one : Connection L = connection link link' x.served.exchanges x.entries ending in
+        let all : Whole s full' desk seen' (all_exchanges (r.connections ++ one ∷ [])) = subst (Whole s full' desk seen')
+        (ap (λ xs. all_exchanges r.connections ++ xs) (sym (append-nil x.served.exchanges)) ∙ sym (flat_map-append (λ (c : Connection L). c.exchanges) r.connections (one ∷ [])))
+        (whole_more s full full' desk seen seen' (all_exchanges r.connections) x.served.exchanges x.on more r.whole x.served.service r.lacks x.served.lacks x.stuck) in
         record {
           connections = r.connections ++ one ∷ [];
           on = goes_on first seen seen' r.on x.on;
@@ -121,6 +170,8 @@ module _ {D L : Type 0} (coming_of handed_of : D → Option (List L)) (faults_of
               ∙ ap (λ es. placed desk first ++ es) (ap (λ es. all_entries r.connections ++ es) (sym (append-nil x.entries)) ∙ sym (flat_map-append (λ (c : Connection L). c.entries) r.connections (one ∷ [])))));
           served = All-push (IsServedLink coming_of handed_of faults_of input_of output_of reads_of writes_of s full' desk seen') r.connections one
               (all_served_on full full' desk seen seen' r.connections more x.on r.served) (record { served = x.served; by = refl });
+          whole = all.service;
+          lacks = all.lacks;
           brought = subst (λ z. BringsAll (coming_of a) z (map (λ (c : Connection L). c.first) (r.connections ++ one ∷ []))) (sym same)
               (subst (BringsAll (coming_of a) (coming_of c)) (sym (map-append (λ (c : Connection L). c.first) r.connections (one ∷ [])))
               (brings_more (coming_of a) (coming_of b) (coming_of c) (map (λ (c : Connection L). c.first) r.connections) link r.brought came.brought));
@@ -138,6 +189,7 @@ module _ {D L : Type 0} (coming_of handed_of : D → Option (List L)) (faults_of
       on = r.on;
       own = r.own;
       served = r.served;
+      whole = r.whole;
       handles = record {
         brought = subst (λ z. BringsAll (coming_of a) z (map (λ (c : Connection L). c.first) r.connections)) (sym same) r.brought;
         handed = subst (λ z. HandsAllBack (handed_of a) z (map (λ (c : Connection L). c.last) r.connections)) (sym handed) r.handed;

@@ -6,6 +6,7 @@ use Rattle.flight_history.specs.declared.entry.Entry.{Entry}
 use Rattle.desk_service.specs.Places.{GoesOn}
 use Rattle.desk_service.specs.Exchanges.{Exchange}
 use Rattle.desk_service.specs.Laws.{has_status}
+use Rattle.desk_service.specs.Service.{Service}
 use Rattle.desk_service.specs.Turns.{Setting, Placed, placed}
 use Rattle.desk_http.specs.Served.{Served}
 use Rattle.desk_http.specs.declared.ending.ConnEnd.{ConnEnd}
@@ -65,12 +66,16 @@ module _ {D L : Type 0} (coming_of handed_of : D → Option (List L)) (faults_of
       pub on : GoesOn seen seen'
       pub own : placed desk seen' ≡ placed desk seen ++ all_entries connections
       pub served : AreServed desk seen' connections
+      -- all exchanges at the door are one service: from the first that lacked an entry on, each that needs one lacks it, on whichever link
+      pub whole : Service s desk seen' (all_exchanges connections)
       pub handles : Handles connections d d' closed
 
     -- each link of the door was served in the history, and their entries are all those of the desk
     pub record IsServedDoor (desk : ℕ) (history : List Entry) (connections : List (Connection L)) (d d' : D) : Type 0 where
       pub own : placed desk history ≡ all_entries connections
       pub served : AreServed desk history connections
+      -- all exchanges at the door are one service: from the first that lacked an entry on, each that needs one lacks it, on whichever link
+      pub whole : Service s desk history (all_exchanges connections)
       pub closed : Bool
       pub handles : Handles connections d d' closed
 

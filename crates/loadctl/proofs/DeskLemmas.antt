@@ -15,7 +15,7 @@ use Rattle.desk_http.specs.declared.ending.ConnEnd.TheVariants as end
 use Rattle.desk_fleet.specs.declared.fault.RefusedFile.{RefusedFile}
 use Rattle.desk_run.specs.Faults.{IsNotOpened, ReportsFile}
 use Rattle.desk_run.specs.Runs.{Line, line, IsRunOf}
-use Rattle.desk_run.specs.Servable.{CanServe}
+use Rattle.desk_run.specs.Servable.{CanOpen, CanServe}
 use Rattle.desk_run.specs.declared.fault.DeskFault.{DeskFault}
 use Rattle.desk_run.specs.declared.fault.DeskFault.TheVariants.{Fleet, Unread, Keeper, BadTable, TooMany, NoMemory}
 use Rattle.desk_run.proofs.Causes.{refused-no_fleet, refused-reported, servable-fleet, servable-right, servable-few, unrefused-ends, read-failed, write-failed}
@@ -87,13 +87,15 @@ module _ (names : List (List ℕ)) (files files' : Option Files) (failed failed'
       → (ending ≡ Err Unread → Rose failed failed')
       → (ending ≢ Err Unread → failed' ≡ failed)
       → (ending ≡ Err Keeper → Rose rows rows')
+      → OnErr ending (tables' ≡ tables)
+      → IfErr ending (λ fault. fault ≢ Keeper → rows' ≡ rows)
       → IfOk ending (λ end. status ≡ status_of_end end)
       → OnOk ending ((output' ≡ mid) × (writes' ≡ between))
       → IfErr ending (λ fault. IsReported fault mid output' between writes' status)
       → EndsDesk names (surroundings files failed tables rows (line input output reads writes)) (surroundings files' failed' tables' rows' (line input' output' reads' writes')) opening history status
-  desk-ends (Ok end) run cause empty still counted uncounted fails is same reported =
+  desk-ends (Ok end) run cause empty still counted uncounted fails held kept is same reported =
       rw (is, same.0, same.1) (served end (λ file refused. refused-no_fleet files names run.opened.fleet file refused run.of_files) run (uncounted (λ e. cc)))
-  desk-ends (Err fault) run cause empty still counted uncounted fails is same reported =
+  desk-ends (Err fault) run cause empty still counted uncounted fails held kept is same reported =
       let output_same : mid ≡ output = ap (λ (l : Line). l.output) still in
       let writes_same : between ≡ writes = ap (λ (l : Line). l.failed_writes) still in
       unopened fault record {
@@ -102,8 +104,9 @@ module _ (names : List (List ℕ)) (files files' : Option Files) (failed failed'
         unread = λ e. counted (ap (λ f. Err f) e);
         read = λ n. uncounted (λ e. n (let f : Err fault ≡ Err Unread = e in cc));
         failed = λ e. fails (ap (λ f. Err f) e);
+        kept = kept;
         unheard = record { input = ap (λ (l : Line). l.input) still; reads = ap (λ (l : Line). l.failed_reads) still };
-      } (rw (output_same, writes_same) at reported) empty.0 empty.1
+      } (rw (output_same, writes_same) at reported) held empty.0 empty.1
 
 module _ (names : List (List ℕ)) (before after : Surroundings) (none : NoneFailed before after) where
   reported-ends : (fault : DeskFault) (status : ℕ)
@@ -127,18 +130,18 @@ module _ (names : List (List ℕ)) (before after : Surroundings) (none : NoneFai
   served-ends end.WriteFault opening history can run = absurd (none.writes (write-failed _ _ _ _ _ _ _ _ _ _ run))
   served-ends end.Served opening history can run = inr (inl refl)
 
-  -- a desk that can be served is not left unopened while there is memory
-  unopened-ends : (fault : DeskFault) (status : ℕ) → CanServe before.files names before.tables before.line.input → IsUnopened names before after fault
+  -- an office that can be opened is, while there is memory
+  pub unopened-ends : (fault : DeskFault) (status : ℕ) → CanOpen before.files names before.tables → IsUnopened names before after fault
       → IsReported fault before.line.output after.line.output before.line.failed_writes after.line.failed_writes status → status ≡ 9
-  unopened-ends (Fleet file) status can is reported = absurd (servable-fleet _ _ _ _ can file is.cause)
+  unopened-ends (Fleet file) status can is reported = absurd (servable-fleet _ _ _ can file is.cause)
   unopened-ends Unread status can is reported = absurd (none.files (is.unread refl))
   unopened-ends Keeper status can is reported = absurd (none.rows (is.failed refl))
-  unopened-ends (BadTable key) status can is reported = absurd (servable-right _ _ _ _ can key is.cause)
-  unopened-ends TooMany status can is reported = absurd (servable-few _ _ _ _ can is.cause)
+  unopened-ends (BadTable key) status can is reported = absurd (servable-right _ _ _ can key is.cause)
+  unopened-ends TooMany status can is reported = absurd (servable-few _ _ _ can is.cause)
   unopened-ends NoMemory status can is reported = no_memory-ends status reported
 
   -- a refused file is reported while there is memory
-  refused-ends : (fault : DeskFault) (status : ℕ) (file : RefusedFile) → ReportsFile file fault → IsUnopened names before after fault
+  pub refused-ends : (fault : DeskFault) (status : ℕ) (file : RefusedFile) → ReportsFile file fault → IsUnopened names before after fault
       → IsReported fault before.line.output after.line.output before.line.failed_writes after.line.failed_writes status → (status ≡ 3) ⊎ (status ≡ 9)
   refused-ends (Fleet reported) status file tells is printed = reported-ends (Fleet reported) status printed
   refused-ends Unread status file tells is printed = absurd (none.files (is.unread refl))
@@ -154,7 +157,7 @@ desk-complete names before after opening history _ (served ending unrefused run 
   served = λ can none. served-ends names before after none ending opening history can run;
   refused = λ file refused none. absurd (unrefused file refused);
 }
-desk-complete names before after opening history status (unopened fault is reported opens says) = record {
-  served = λ can none. inr (inr (unopened-ends names before after none fault status can is reported));
+desk-complete names before after opening history status (unopened fault is reported held opens says) = record {
+  served = λ can none. inr (inr (unopened-ends names before after none fault status can.opens is reported));
   refused = λ file refused none. refused-ends names before after none fault status file (is.refused file refused) is reported;
 }

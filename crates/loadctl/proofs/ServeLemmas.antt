@@ -1,5 +1,5 @@
 -- The arguments of several desks, and how their run ends.
-use Rattle.std.proofs.Common.{◌≡◌, ◌≢◌, ◌≤◌, ◌-◌, ◌+◌, ℕ, List, [], ◌∷◌, length, take, drop, map, get_or, Option, Result, Ok, Err, refl, sym, ap, ◌∙◌, subst, arith}
+use Rattle.std.proofs.Common.{◌≡◌, ◌≢◌, ◌≤◌, ◌-◌, ◌+◌, ◌⊎◌, inl, inr, ℕ, List, [], ◌∷◌, length, take, drop, map, get_or, Option, Result, Ok, Err, refl, sym, ap, ◌∙◌, subst, arith}
 use Rattle.std.specs.Prelude.{All, codes, String, string_bytes, None, Some, IfNone, IsSomeAnd, option_map}
 use Rattle.std.specs.List.{slice_get}
 use Rattle.std.proofs.lemmas.Option.{slice_get-map}
@@ -13,18 +13,21 @@ use Rattle.load_io.specs.Shelf.{Files}
 use Rattle.keeper.specs.Tables.{Tables}
 use Rattle.flight_state.specs.declared.state.FlightState.{FlightState}
 use Rattle.flight_history.specs.declared.entry.Entry.{Entry}
+use Rattle.desk_serve.specs.Doors.{EndAs}
 use Rattle.desk_serve.specs.declared.ending.DoorsEnd.{DoorsEnd}
+use Rattle.desk_serve.specs.declared.ending.DoorsEnd.TheVariants.{Closed, Failed}
 use Rattle.desk_run.specs.Faults.{IsNotOpened}
 use Rattle.desk_run.specs.Runs.{line}
 use Rattle.desk_run.specs.DoorRuns.{IsRunOfDoors}
 use Rattle.desk_run.specs.declared.fault.DeskFault.{DeskFault}
-use Rattle.desk_run.specs.declared.fault.DeskFault.TheVariants.{Unread, Keeper}
+use Rattle.desk_run.specs.declared.fault.DeskFault.TheVariants.{Unread, Keeper, NoMemory}
 use Rattle.desk_run.proofs.Causes.{refused-no_fleet, refused-reported}
 use Rattle.plan_commands.specs.Arguments.{BeginsWithMinus, arguments_of}
-use Rattle.loadctl.specs.Desk.{most_aircraft, surroundings, IsStoreName, AskForFile, IsReported}
-use Rattle.loadctl.specs.Serve.{most_desks, ports_end, status_of_doors, AskForServe, EndsServe, KeepIn}
+use Rattle.loadctl.specs.Desk.{most_aircraft, surroundings, IsStoreName, AskForFile, IsReported, Surroundings}
+use Rattle.loadctl.specs.Serve.{most_desks, ports_end, status_of_doors, AskForServe, EndsServe, IsCompleteAtDoors, KeepIn}
 use Rattle.loadctl.specs.Serve.EndsServe.{served, unopened}
 use Rattle.loadctl.specs.Serve.KeepIn.{one_desk, several}
+use Rattle.loadctl.proofs.DeskLemmas.{unopened-ends, refused-ends}
 
 -- the first four and the others
 pub four_and_more : {X : Type 0} (xs : List X) (a b c d d0 d1 d2 d3 : X) → 4 ≤ length xs → a ≡ get_or xs 0 d0 → b ≡ get_or xs 1 d1 → c ≡ get_or xs 2 d2
@@ -139,19 +142,42 @@ module _ {D L : Type 0} (coming_of handed_of : D → Option (List L)) (faults_of
       → (ending ≡ Err Unread → Rose failed failed')
       → (ending ≢ Err Unread → failed' ≡ failed)
       → (ending ≡ Err Keeper → Rose rows rows')
+      → IfErr ending (λ fault. fault ≢ NoMemory → tables' ≡ tables)
+      → IfErr ending (λ fault. fault ≢ Keeper → rows' ≡ rows)
       → IfOk ending (λ end. status ≡ status_of_doors end)
       → OnOk ending ((output' ≡ output) × (writes' ≡ writes))
       → IfErr ending (λ fault. IsReported fault output output' writes writes' status)
       → EndsServe coming_of handed_of faults_of input_of output_of reads_of writes_of names
       (surroundings files failed tables rows (line left output reads writes)) (surroundings files' failed' tables' rows' (line left output' reads writes')) ds ds' opening history status
-  serve-ends (Ok end) run cause empty still counted uncounted fails is same reported =
+  serve-ends (Ok end) run cause empty still counted uncounted fails held kept is same reported =
       rw (is, same.0, same.1) (served end (λ file refused. refused-no_fleet files names run.opened.fleet file refused run.of_files) run (uncounted (λ e. cc)) refl)
-  serve-ends (Err fault) run cause empty still counted uncounted fails is same reported =
+  serve-ends (Err fault) run cause empty still counted uncounted fails held kept is same reported =
       unopened fault record {
         cause = cause;
         refused = λ file refused. refused-reported files names tables file fault refused cause;
         unread = λ e. counted (ap (λ f. Err f) e);
         read = λ n. uncounted (λ e. n (let f : Err fault ≡ Err Unread = e in cc));
         failed = λ e. fails (ap (λ f. Err f) e);
+        kept = kept;
         unheard = record { input = refl; reads = refl };
-      } reported still empty.0 empty.1
+      } reported held still empty.0 empty.1
+
+module _ {D L : Type 0} (coming_of handed_of : D → Option (List L)) (faults_of : D → ℕ) (input_of output_of : L → Option (List ℕ)) (reads_of writes_of : L → ℕ)
+    (names : List (List ℕ)) (before after : Surroundings) (ds ds' : List D) where
+  doors-end : (ending : DoorsEnd) → EndAs coming_of handed_of faults_of ending ds ds'
+      → (status_of_doors ending ≡ 0) ⊎ (((status_of_doors ending ≡ 11) × EndAs coming_of handed_of faults_of Failed ds ds') ⊎ (status_of_doors ending ≡ 9))
+  doors-end Closed ended = inl refl
+  doors-end Failed ended = inr (inl (refl, ended))
+
+  -- what the files and the kept rows come to where no call but one of the doors fails
+  pub serve-complete : (opening : List FlightState) (history : List Entry) (status : ℕ)
+      → EndsServe coming_of handed_of faults_of input_of output_of reads_of writes_of names before after ds ds' opening history status
+      → IsCompleteAtDoors coming_of handed_of faults_of names before after ds ds' status
+  serve-complete opening history _ (served ending unrefused run read line) = record {
+    served = λ can none. doors-end ending run.served.ended;
+    refused = λ file refused none. absurd (unrefused file refused);
+  }
+  serve-complete opening history status (unopened fault is reported held still opens says) = record {
+    served = λ can none. inr (inr (unopened-ends names before after none fault status can is reported));
+    refused = λ file refused none. refused-ends names before after none fault status file (is.refused file refused) is reported;
+  }

@@ -109,7 +109,9 @@ pub record IsUnopened (names : List (List ℕ)) (before after : Surroundings) (f
   pub refused : (file : RefusedFile) → HaveRefusedFile before.files names file → ReportsFile file fault
   pub unread : fault ≡ Unread → Rose before.failed_files after.failed_files
   pub read : fault ≢ Unread → after.failed_files ≡ before.failed_files
+  -- only a keeper that fails counts it
   pub failed : fault ≡ Keeper → Rose before.failed_rows after.failed_rows
+  pub kept : fault ≢ Keeper → after.failed_rows ≡ before.failed_rows
   pub unheard : IsUnheard before.line after.line
 
 -- what is printed for the fault, and the exit status
@@ -127,10 +129,10 @@ pub data EndsDesk (names : List (List ℕ)) (before after : Surroundings) (openi
   served : (ending : ConnEnd) → ((file : RefusedFile) → HaveRefusedFile before.files names file → ⊥)
       → IsRunOf before.files names before.tables after.tables before.failed_rows after.failed_rows before.line after.line ending opening history
       → after.failed_files ≡ before.failed_files → EndsDesk names before after opening history (status_of_end ending)
-  -- it was not opened, as the output says
+  -- it was not opened, as the output says, and the rows are as they were handed in
   unopened : {status : ℕ} (fault : DeskFault) → IsUnopened names before after fault
       → IsReported fault before.line.output after.line.output before.line.failed_writes after.line.failed_writes status
-      → opening ≡ [] → history ≡ [] → EndsDesk names before after opening history status
+      → after.tables ≡ before.tables → opening ≡ [] → history ≡ [] → EndsDesk names before after opening history status
 
 -- no call to what is outside has failed
 pub record NoneFailed (before after : Surroundings) : Type 0 where

@@ -20,7 +20,7 @@ loop-init g c =
       same_references = refl;
       more = ap (λ (w : Hearing). w.over) c.restart.ensures;
       talk = subst (λ (heard : List ℕ). Talk L.left L.content L.read_faults L.write_faults (C.setting c.args.counter.now) (C.desk c.args.counter.now) (C.seen c.args.counter.now) c.args.link.now
-          (C.full c.args.counter.now) (C.seen c.args.counter.now) c.args.link.now heard 0) (sym (ap (λ (w : Hearing). w.heard) c.restart.ensures))
+          (C.full c.args.counter.now) (C.full c.args.counter.now) (C.seen c.args.counter.now) c.args.link.now heard 0) (sym (ap (λ (w : Hearing). w.heard) c.restart.ensures))
           (talk_begins L.left L.content L.read_faults L.write_faults (C.setting c.args.counter.now) (C.desk c.args.counter.now) (C.seen c.args.counter.now) c.args.link.now (C.full c.args.counter.now));
     }
 
@@ -41,8 +41,8 @@ loop-preserved g c =
       full = λ f. e.full (i.full f);
       follows = g.met.C.Counter.follows_on _ _ _ i.follows e.follows;
       same_references = e.same_references ∙ i.same_references;
-      more = stays_open _ _ _ _ _ _ _ _ _ _ _ _ _ _ _ _ _ _ n i.talk e.full final (omega arith) steps refl;
-      talk = talk_more _ _ _ _ _ _ _ _ _ _ _ _ _ _ _ _ _ _ n i.talk e.full final (omega arith) steps refl;
+      more = stays_open _ _ _ _ _ _ _ _ _ _ _ _ _ _ _ _ _ _ _ n i.talk e.full final (omega arith) steps refl;
+      talk = talk_more _ _ _ _ _ _ _ _ _ _ _ _ _ _ _ _ _ _ _ n i.talk e.full final (omega arith) steps refl;
     }
 
 pub serve_next-requires-2 : goal.serve_next-requires-2
@@ -55,7 +55,7 @@ returns-in-Some-clause-served g c =
     let n = c.loop.counter2 in
     let below = c.loop-test.true in
     let final : false ≡ (n + 1 == 1000) = grind (arith, nat_tests) in
-    ended _ _ _ _ _ _ _ _ _ _ _ _ _ _ _ _ _ _ n i.talk e.full final (omega arith) c.in-Some.end (in_setting _ _ _ _ _ _ _ _ _ _ _ _ _ _ _ _ _ _ (Some c.in-Some.end) i.setting i.desk e.steps)
+    ended _ _ _ _ _ _ _ _ _ _ _ _ _ _ _ _ _ _ _ n i.talk e.full final (omega arith) c.in-Some.end (in_setting _ _ _ _ _ _ _ _ _ _ _ _ _ _ _ _ _ _ (Some c.in-Some.end) i.setting i.desk e.steps)
 
 pub returns-in-Some-clause-setting : goal.returns-in-Some-clause-setting
 returns-in-Some-clause-setting g c = c.serve_next.ensures.setting ∙ c.loop.invariant.setting
@@ -79,7 +79,7 @@ returns-in-Some-serve_next-clause-served g c =
     let n = c.loop.counter2 in
     let all = last_turn n c.loop-test.false c.loop.auto.counter2-end in
     let final : true ≡ (n + 1 == 1000) = grind (arith, nat_tests) in
-    ended _ _ _ _ _ _ _ _ _ _ _ _ _ _ _ _ _ _ n i.talk e.full final (omega arith) c.in-Some-serve_next.end (in_setting _ _ _ _ _ _ _ _ _ _ _ _ _ _ _ _ _ _ (Some c.in-Some-serve_next.end) i.setting i.desk e.steps)
+    ended _ _ _ _ _ _ _ _ _ _ _ _ _ _ _ _ _ _ _ n i.talk e.full final (omega arith) c.in-Some-serve_next.end (in_setting _ _ _ _ _ _ _ _ _ _ _ _ _ _ _ _ _ _ (Some c.in-Some-serve_next.end) i.setting i.desk e.steps)
 
 pub returns-in-Some-serve_next-clause-setting : goal.returns-in-Some-serve_next-clause-setting
 returns-in-Some-serve_next-clause-setting g c = c.serve_next-2.ensures.setting ∙ c.loop.invariant.setting
@@ -103,7 +103,7 @@ returns-in-None-serve_next-clause-served g c =
     let n = c.loop.counter2 in
     let all = last_turn n c.loop-test.false c.loop.auto.counter2-end in
     let final : true ≡ (n + 1 == 1000) = grind (arith, nat_tests) in
-    most_served _ _ _ _ _ _ _ _ _ _ _ _ _ _ _ _ _ _ n i.talk e.full final (omega arith) (in_setting _ _ _ _ _ _ _ _ _ _ _ _ _ _ _ _ _ _ None i.setting i.desk e.steps) all
+    most_served _ _ _ _ _ _ _ _ _ _ _ _ _ _ _ _ _ _ _ n i.talk e.full final (omega arith) (in_setting _ _ _ _ _ _ _ _ _ _ _ _ _ _ _ _ _ _ None i.setting i.desk e.steps) all
 
 pub returns-in-None-serve_next-clause-setting : goal.returns-in-None-serve_next-clause-setting
 returns-in-None-serve_next-clause-setting g c = c.serve_next-2.ensures.setting ∙ c.loop.invariant.setting

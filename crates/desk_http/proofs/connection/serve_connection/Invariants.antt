@@ -15,5 +15,5 @@ invariant-loop g l =
       same_references : L.references l.link ≡ L.references l.initial.link;
       more : IsFalse l.tools.wire.over;
       talk : Talk L.left L.content L.read_faults L.write_faults (C.setting l.initial.counter-2) (C.desk l.initial.counter-2) (C.seen l.initial.counter-2) l.initial.link
-          (C.full l.counter-2) (C.seen l.counter-2) l.link l.tools.wire.heard l.counter;
+          (C.full l.initial.counter-2) (C.full l.counter-2) (C.seen l.counter-2) l.link l.tools.wire.heard l.counter;
     }

@@ -6,4 +6,4 @@ returns-clause-ends g c =
     let ran = c.run_desk-ending.ensures in
     let status = c.status_of-status.ensures in
     desk-ends _ _ _ _ _ _ _ _ _ _ _ _ _ _ _ _ _ _ _ _ _ _ c.run_desk-ending.result.ending
-    ran.served ran.refused ran.empty ran.unserved ran.counted ran.uncounted ran.cause status.served status.unchanged status.reported
+    ran.served ran.refused ran.empty ran.unserved ran.counted ran.uncounted ran.cause ran.same_tables ran.same_count status.served status.unchanged status.reported
