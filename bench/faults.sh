@@ -87,6 +87,8 @@ request GET /flights/XX1-11 '' >"$work/asked"
 open_flight XX1 >"$work/opening"
 run good.db "$work/opening"
 is_whole good.db || fail "a good store does not work: status $status."
+# With sqlite3 the log is copied into the file, so that the file alone is a whole store.
+! command -v sqlite3 >/dev/null || "${as[@]}" sqlite3 good.db 'PRAGMA wal_checkpoint(truncate)' >/dev/null
 cp good.db "$work/good"
 
 # A store with this content is refused, and stays.
@@ -102,8 +104,10 @@ refuses() {
 
 echo 'this is no database' >"$work/text"
 refuses 'a file that is no database' "$work/text"
-head -c 6000 "$work/good" >"$work/short"
-refuses 'a database that was cut' "$work/short"
+if command -v sqlite3 >/dev/null; then
+    head -c 6000 "$work/good" >"$work/short"
+    refuses 'a database that was cut' "$work/short"
+fi
 refuses 'a file that may only be read' "$work/good" 444
 refuses 'a file that may not be read' "$work/good" 000
 
@@ -120,22 +124,58 @@ chmod 555 sealed
 run sealed/flights.db "$work/opening"
 says 'a folder that may only be read' is_untouched sealed/flights.db "$work/good"
 
-# Another program has the store until its input ends.
+# A program that is running on the store until its input ends.
 mkfifo "$work/never"
 "${as[@]}" "$work/loadctl" desk good.db "$work/daiab.toml" <"$work/never" >"$work/held" &
 holder=$!
 exec 9>"$work/never"
-cat "$work/asked" >&9
-for ((tries = 0; tries < 100; tries++)); do
-    [ ! -s "$work/held" ] || break
-    sleep 0.1
-done
-run good.db "$work/opening"
-says 'a store that another program has' is_untouched good.db "$work/good"
+asked=0
+
+# Sends it a request, and waits for the answer, whose status is then the last one.
+ask() {
+    local tries
+    "$@" >&9
+    asked=$((asked + 1))
+    for ((tries = 0; tries < 100; tries++)); do
+        [ "$(grep -a -c 'HTTP/1.1 ' "$work/held")" -lt "$asked" ] || break
+        sleep 0.1
+    done
+    status=$(grep -a -o 'HTTP/1.1 [0-9]*' "$work/held" | tail -n 1 | cut -c 10-)
+}
+
+is_status() { [ "$status" = "$1" ]; }
+
+# It was answered as the keeper's failure, and no file was made at the name.
+is_missed() { [ "$status" = 503 ] && [ ! -e good.db ]; }
+
+has_flights() { [ "$(sqlite3 "$1" 'SELECT count(*) FROM flight' 2>/dev/null)" = "$2" ]; }
+
+ask open_flight XX2
+says 'a store that is running' is_status 201
+says 'the same store, by another program' is_whole good.db
+ask open_flight XX3
+says 'the store after the other program' is_status 201
+if command -v sqlite3 >/dev/null; then
+    says 'sqlite3 on a store that is running' has_flights good.db 3
+    "${as[@]}" sqlite3 good.db '.backup copy.db' || true
+    says 'a copy of a store that is running' has_flights copy.db 3
+fi
+ask open_flight XX4
+says 'the store after sqlite3' is_status 201
+mv good.db away.db
+ask open_flight XX5
+says 'a store that was moved away' is_missed
+cp away.db good.db
+own good.db
+ask open_flight XX5
+says 'a copy in place of the store' is_status 503
+mv away.db good.db
+ask open_flight XX5
+says 'the store that was moved back' is_status 201
 exec 9>&-
 wait "$holder" || true
 holder=
-says 'the store after the other program' is_whole good.db
+says 'the store after all that' is_whole good.db
 
 for ((n = 0; n < flights; n++)); do open_flight "XX$((1000 + n))"; done >"$work/openings"
 for ((n = 0; n < flights; n++)); do request GET "/flights/XX$((1000 + n))-11" ''; done >"$work/shows"

@@ -6,7 +6,8 @@
 #
 # A round starts one program and kills that one, by its process id, at a moment within the time that a whole run takes. The
 # changes of a flight are sent in the order of their editions, so after a kill at most one edition is in the store whose
-# answer did not come. The trip fuel of an edition follows from its number, which shows that a row belongs to its edition.
+# answer did not come. The trip fuel of an edition follows from its number, which shows that a row belongs to its edition. Where
+# sqlite3 is there, a reader opens the store all the time, counts its flights and closes it.
 set -eu
 
 top=$(dirname "$(dirname "$(readlink -f "$0")")")
@@ -31,8 +32,15 @@ esac
 
 work=$(mktemp -d)
 running=
+reader=
+end_reader() {
+    rm -f "$work/reading"
+    [ -z "$reader" ] || wait "$reader" 2>/dev/null || true
+    reader=
+}
 stop() {
     [ -z "$running" ] || kill -KILL "$running" 2>/dev/null || true
+    end_reader
     rm -rf "$work"
 }
 trap stop EXIT
@@ -130,6 +138,29 @@ kill_one() {
     [ "$ended" != 137 ] || killed=$((killed + 1))
 }
 
+# Reads the store until it is told to end. A read that meets the program is told that the store is locked; another one that does
+# not see each flight went wrong.
+read_on() {
+    local count reads=0 locked=0
+    while [ -e "$work/reading" ]; do
+        if count=$(sqlite3 -readonly "$store" 'SELECT count(*) FROM flight' 2>&1); then
+            [ "$count" = "$flights" ] || echo "$count" >>"$work/misread"
+            reads=$((reads + 1))
+        else
+            case $count in
+                *locked*) locked=$((locked + 1)) ;;
+                *) echo "$count" >>"$work/misread" ;;
+            esac
+        fi
+        echo "$reads reads, and $locked that met the program" >"$work/reads"
+    done
+}
+if command -v sqlite3 >/dev/null; then
+    touch "$work/reading"
+    read_on &
+    reader=$!
+fi
+
 round=0
 look
 while [ "$round" -lt "$rounds" ]; do
@@ -147,7 +178,10 @@ while [ "$round" -lt "$rounds" ]; do
     look
 done
 
+end_reader
 if command -v sqlite3 >/dev/null; then
+    [ ! -e "$work/misread" ] || fail "a reader went wrong: $(head -n 3 "$work/misread")"
+    echo "A reader beside the program: $(cat "$work/reads")."
     [ "$(sqlite3 "$store" 'pragma integrity_check')" = ok ] || fail "sqlite3 finds the store damaged."
 fi
 echo "$rounds rounds, $killed of them killed before their end: $answers editions were acknowledged, $losses of them were lost; $unanswered were kept whose answer had not come."

@@ -1,8 +1,9 @@
 #!/usr/bin/env bash
-# The time that changes of a flight take in a store, beside the time of sqlite3 for the same upserts with the same settings:
-# one open connection, a transaction for each, a log beside the file that is synced at each commit. bench/store.sh [PROGRAM]
-# takes the program that was proved and built, out/loadctl by default. The two take turns, and of each the median of five runs
-# is taken, from its start to its end. The time of a run that only opens the store and shows a flight stands beside it.
+# The time that changes of a flight take in a store, beside the time of a small program over sqlite3 for the same upserts with
+# the same settings: each opens the store, puts the row in a transaction of its own, with a log beside the file that is synced at
+# each commit, and closes the store. bench/store.sh [PROGRAM] takes the program that was proved and built, out/loadctl by
+# default. The two take turns, and of each the median of five runs is taken, from its start to its end. The time of a run that
+# only opens the store and shows a flight stands beside it.
 set -euo pipefail
 
 top=$(dirname "$(dirname "$(readlink -f "$0")")")
@@ -17,6 +18,7 @@ fail() {
 
 [ -x "$program" ] || fail "$program is not there; ./prove proves and builds it."
 command -v sqlite3 >/dev/null || fail "sqlite3 is not there, so nothing is compared."
+command -v python3 >/dev/null || fail "python3 is not there, so nothing is compared."
 
 work=$(mktemp -d)
 trap 'rm -rf "$work"' EXIT
@@ -26,16 +28,18 @@ request() { printf '%s %s HTTP/1.1\r\nContent-Length: %d\r\n\r\n%s' "$1" "$2" "$
 
 # One run of the program on the store.
 run() {
-    timeout 60 "$program" desk "$work/flights.db" "$aircraft" <"$work/$1" >"$work/output" || fail "the program ended with $?."
+    timeout 600 "$program" desk "$work/flights.db" "$aircraft" <"$work/$1" >"$work/output" || fail "the program ended with $?."
 }
 
-# A store of so many flights.
+# A store of so many flights, opened in several runs, since one answers 1,000 requests.
 open_flights() {
-    local n
-    for ((n = 0; n < $1; n++)); do
-        request POST /flights "{\"flight\":\"XX$((1000 + n))\",\"day\":12,\"registration\":\"DAIAB\",\"origin\":\"FRA\",\"destination\":\"ARN\"}"
-    done >"$work/opened"
-    run opened
+    local first n
+    for ((first = 0; first < $1; first += 500)); do
+        for ((n = first; n < first + 500 && n < $1; n++)); do
+            request POST /flights "{\"flight\":\"XX$((1000 + n))\",\"day\":12,\"registration\":\"DAIAB\",\"origin\":\"FRA\",\"destination\":\"ARN\"}"
+        done >"$work/opened"
+        run opened
+    done
     sqlite3 "$work/flights.db" 'PRAGMA wal_checkpoint(truncate)' >/dev/null
     cp "$work/flights.db" "$work/before.db"
 }
@@ -46,19 +50,6 @@ ask_changes() {
     for ((n = 1; n <= changes; n++)); do
         request PUT "/flights/XX1000-12/fuel/$n" "{\"taxi\":200,\"takeoff\":9000,\"trip\":$((5000 + n))}"
     done >"$work/asked"
-}
-
-# The same upserts for sqlite3: the last row of the flight, with other bytes at its end each time, since sqlite3 writes no page
-# that stays as it is.
-write_upserts() {
-    local bytes n end
-    bytes=$(sqlite3 "$work/flights.db" "SELECT hex(bytes) FROM flight WHERE key = 'XX1000-12'")
-    echo 'PRAGMA journal_mode = wal; PRAGMA synchronous = full;'
-    echo 'CREATE TABLE IF NOT EXISTS flight (key TEXT PRIMARY KEY NOT NULL, bytes BLOB NOT NULL) STRICT;'
-    for ((n = 1; n <= changes; n++)); do
-        printf -v end '%06d' "$n"
-        echo "INSERT INTO flight (key, bytes) VALUES ('XX1000-12', X'${bytes%??????}$end') ON CONFLICT (key) DO UPDATE SET bytes = excluded.bytes;"
-    done
 }
 
 # The time of a command, in nanoseconds. Before it, the store is as it was opened.
@@ -73,19 +64,19 @@ nanoseconds() {
     echo $(($(date +%s%N) - begun))
 }
 
-upserts() { sqlite3 "$work/copy.db" <"$work/upserts" >"$work/output"; }
+# The same upserts over sqlite3, with other bytes at the row's end each time, since it writes no page that stays as it is.
+upserts() { "$top/bench/store_reference.py" "$work/copy.db" XX1000-12 "$changes"; }
 
 median() { sort -n "$work/$1" | sed -n 3p; }
 
 request GET /flights/XX1000-12 '' >"$work/shown"
 printf '%8s %8s %10s %22s %22s %6s\n' flights changes opening loadctl sqlite3 ratio
-for flights in 1 100 500; do
+for flights in 1 100 500 2000; do
     rm -f "$work"/*.db "$work"/*.db-wal "$work"/*.db-shm "$work"/*.times
     open_flights "$flights"
     ask_changes
     run asked
     [ "$(grep -a -o '{"edition":[0-9]*}' "$work/output" | wc -l)" = "$changes" ] || fail "a change was refused."
-    write_upserts >"$work/upserts"
     for _ in 1 2 3 4 5; do
         nanoseconds run shown >>"$work/opening.times"
         nanoseconds run asked >>"$work/loadctl.times"

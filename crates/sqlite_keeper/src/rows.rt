@@ -1,6 +1,6 @@
 //! The statements that keep rows in a database.
 
-ghost use Rattle.std.specs.Prelude.{◌≡◌, [], ◌∷◌, ◌++◌, map, IfOk, OnOk, IsTrue};
+ghost use Rattle.std.specs.Prelude.{◌≡◌, ◌≢◌, ◌↔◌, [], ◌∷◌, ◌++◌, map, Err, IfOk, OnOk, IsTrue};
 ghost use Rattle.sqlite.specs.Held.{state};
 ghost use Rattle.sqlite.specs.State.{Survives, CommitsBy};
 ghost use Rattle.keeper.specs.Tables.{AreInKeyOrder, IsBefore};
@@ -94,6 +94,7 @@ fn kept_row(row: &Row) -> Result<KeptRow, KeepFault>
 fn add_last(rows: &mut Vec<KeptRow>, row: KeptRow) -> Result<(), KeepFault>
     ensures added { OnOk result (rows.new.items ≡ rows.old.items ++ row ∷ []) }
     ensures rising { AreInKeyOrder rows.old.items → OnOk result (AreInKeyOrder rows.new.items) }
+    ensures refused { result ≡ Err KeepFault.Failed → ComesLast rows.old.items row → ⊥ }
 {
     if !comes_last(rows.as_slice(), &row) {
         return Err(KeepFault::Failed);
@@ -102,7 +103,8 @@ fn add_last(rows: &mut Vec<KeptRow>, row: KeptRow) -> Result<(), KeepFault>
 }
 
 fn add(rows: &mut Vec<KeptRow>, row: KeptRow) -> Result<(), KeepFault>
-    ensures { OnOk result (rows.new.items ≡ rows.old.items ++ row ∷ []) }
+    ensures added { OnOk result (rows.new.items ≡ rows.old.items ++ row ∷ []) }
+    ensures memory { result ≢ Err KeepFault.Failed }
 {
     match rows.push(row) {
         Ok(()) => Ok(()),
@@ -111,7 +113,7 @@ fn add(rows: &mut Vec<KeptRow>, row: KeptRow) -> Result<(), KeepFault>
 }
 
 fn comes_last(rows: &[KeptRow], row: &KeptRow) -> bool
-    ensures { IsTrue result → ComesLast rows.now row.now }
+    ensures { IsTrue result ↔ ComesLast rows.now row.now }
 {
     match rows.last() {
         Some(last) => is_before(last, row),
@@ -120,7 +122,7 @@ fn comes_last(rows: &[KeptRow], row: &KeptRow) -> bool
 }
 
 fn is_before(one: &KeptRow, other: &KeptRow) -> bool
-    ensures { IsTrue result → IsBefore one.now other.now }
+    ensures { IsTrue result ↔ IsBefore one.now other.now }
 {
     one.key.as_slice().cmp(other.key.as_slice()).is_lt()
 }

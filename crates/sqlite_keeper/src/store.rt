@@ -1,41 +1,80 @@
 //! A keeper over a file.
 
-ghost use Rattle.std.specs.Prelude.{◌≡◌, ◌≢◌, ◌≤◌, None, Err, IfOk};
+ghost use Rattle.std.specs.Prelude.{◌≡◌, ◌≢◌, ◌≤◌, Err, IfOk, string_bytes};
 ghost use Rattle.desk_base.specs.Faults.{Rose};
 ghost use Rattle.keeper.specs.Tables.{AreInKeyOrder};
+ghost use Rattle.sqlite_keeper.specs.Path.{keeper_at};
 
-use crate::fault::fault_of;
+use crate::place::Wanted;
 use crate::runtime::{OpenRows, StoreRuntime};
 use keeper::{KeepFault, Keeper, KeptRow};
 use std::alloc::Global;
+use std::marker::Model;
 
-/// Keeps rows in the file of a path. The first call opens the file, which stays open until a call fails: the next one then
-/// opens it anew. Its tables are hidden. It counts each failure other than being out of memory, up to the last value of the
-/// counter.
+/// Keeps rows in the file of a path. Each call opens the file, and lets it go at its end. The first one makes it if there is
+/// none, and no other does; the file that was opened first has to be at the path from then on. Its tables are hidden. It counts
+/// each failure other than being out of memory, up to the last value of the counter.
+#[derive(Drop)]
 pub struct SqliteKeeper<Rt: StoreRuntime + Drop> {
     rt: Rt,
     path: String,
-    rows: Option<Rt::Rows>,
+    wanted: Wanted,
     faults: u64,
 }
 
+impl<Rt: StoreRuntime + Drop> Model for SqliteKeeper<Rt> {
+    ghost use Rattle.std.specs.Prelude.{string_bytes};
+    ghost use Rattle.sqlite_keeper.specs.Path.{FileKeeper};
+
+    ghost Value = { FileKeeper };
+
+    ghost view = { λ keeper. record { path = string_bytes keeper.path; faults = keeper.faults } };
+}
+
 impl<Rt: StoreRuntime + Drop> SqliteKeeper<Rt> {
-    /// A keeper of the rows in the file of this path, which no call has opened yet. No failure has been counted.
+    /// A keeper of the rows in the file at this path. No call has opened it yet, and no failure has been counted.
     pub fn new(rt: Rt, path: String) -> SqliteKeeper<Rt>
-        ensures hidden { ⟦<SqliteKeeper<Rt> as Keeper>⟧.tables result ≡ None }
-        ensures no_faults { ⟦<SqliteKeeper<Rt> as Keeper>⟧.faults result ≡ 0 }
+        ensures { result ≡ keeper_at (string_bytes path) }
     {
         SqliteKeeper {
             rt,
             path,
-            rows: None,
+            wanted: Wanted::MadeIfMissing,
             faults: 0,
         }
+    }
+
+    /// Opens the file for one call, with its table.
+    fn opened(&mut self, alloc: Global) -> Result<Rt::Rows, KeepFault>
+        ensures same { self.new ≡ self.old }
+    {
+        let wanted = self.wanted;
+        if let Wanted::MadeIfMissing = wanted {
+            self.wanted = Wanted::Any;
+        }
+        let (mut rows, file) = self.rt.open_store(self.path.as_str(), wanted)?;
+        self.wanted = Wanted::Only(file);
+        rows.prepare(alloc)?;
+        Ok(rows)
+    }
+
+    fn loaded(&mut self, alloc: Global) -> Result<Vec<KeptRow>, KeepFault>
+        ensures rising { IfOk result (λ rows. AreInKeyOrder rows.items) }
+        ensures same { self.new ≡ self.old }
+    {
+        self.opened(alloc)?.load(alloc)
+    }
+
+    fn committed(&mut self, alloc: Global, row: &KeptRow) -> Result<(), KeepFault>
+        ensures same { self.new ≡ self.old }
+    {
+        self.opened(alloc)?.commit(alloc, row)
     }
 
     /// Counts a failure other than being out of memory.
     fn counted<T>(&mut self, answer: Result<T, KeepFault>) -> Result<T, KeepFault>
         ensures same { result ≡ answer }
+        ensures same_path { self.new.path ≡ self.old.path }
         ensures never_falls { self.old.faults ≤ self.new.faults }
         ensures uncounted { answer ≢ Err KeepFault.Failed → self.new.faults ≡ self.old.faults }
         ensures counted { answer ≡ Err KeepFault.Failed → Rose self.old.faults self.new.faults }
@@ -54,69 +93,24 @@ impl<Rt: StoreRuntime + Drop> Keeper for SqliteKeeper<Rt> {
 
     ghost faults = { λ keeper. keeper.faults };
 
-    fn load(&mut self, alloc: Global) -> Result<Vec<KeptRow>, KeepFault> {
-        let loaded = load_from(&mut self.rows, &self.rt, alloc, self.path.as_str());
+    fn load(&mut self, alloc: Global) -> Result<Vec<KeptRow>, KeepFault>
+        ensures same_path { self.new.path ≡ self.old.path }
+        ensures rising { IfOk result (λ rows. AreInKeyOrder rows.items) }
+        ensures never_falls { self.old.faults ≤ self.new.faults }
+        ensures uncounted { result ≢ Err KeepFault.Failed → self.new.faults ≡ self.old.faults }
+        ensures counted { result ≡ Err KeepFault.Failed → Rose self.old.faults self.new.faults }
+    {
+        let loaded = self.loaded(alloc);
         self.counted(loaded)
     }
 
-    fn commit(&mut self, alloc: Global, row: &KeptRow) -> Result<(), KeepFault> {
-        let committed = commit_to(&mut self.rows, &self.rt, alloc, self.path.as_str(), row);
+    fn commit(&mut self, alloc: Global, row: &KeptRow) -> Result<(), KeepFault>
+        ensures same_path { self.new.path ≡ self.old.path }
+        ensures never_falls { self.old.faults ≤ self.new.faults }
+        ensures uncounted { result ≢ Err KeepFault.Failed → self.new.faults ≡ self.old.faults }
+        ensures counted { result ≡ Err KeepFault.Failed → Rose self.old.faults self.new.faults }
+    {
+        let committed = self.committed(alloc, row);
         self.counted(committed)
     }
-}
-
-impl<Rt: StoreRuntime + Drop> Drop for SqliteKeeper<Rt> {
-    fn drop(self) {
-        let SqliteKeeper {
-            rt: _rt,
-            path: _path,
-            rows,
-            faults: _faults,
-        } = self;
-        if let Some(rows) = rows {
-            rows.close();
-        }
-    }
-}
-
-/// The rows that are open, or those of the file, with their table.
-fn taken<Rt: StoreRuntime>(
-    open: &mut Option<Rt::Rows>,
-    rt: &Rt,
-    alloc: Global,
-    path: &str,
-) -> Result<Rt::Rows, KeepFault> {
-    if let Some(rows) = open.take() {
-        return Ok(rows);
-    }
-    let mut rows = rt.open_store(path).map_err(fault_of)?;
-    rows.prepare(alloc)?;
-    Ok(rows)
-}
-
-fn load_from<Rt: StoreRuntime>(
-    open: &mut Option<Rt::Rows>,
-    rt: &Rt,
-    alloc: Global,
-    path: &str,
-) -> Result<Vec<KeptRow>, KeepFault>
-    ensures { IfOk result (λ rows. AreInKeyOrder rows.items) }
-{
-    let mut rows = taken(open, rt, alloc, path)?;
-    let loaded = rows.load(alloc)?;
-    *open = Some(rows);
-    Ok(loaded)
-}
-
-fn commit_to<Rt: StoreRuntime>(
-    open: &mut Option<Rt::Rows>,
-    rt: &Rt,
-    alloc: Global,
-    path: &str,
-    row: &KeptRow,
-) -> Result<(), KeepFault> {
-    let mut rows = taken(open, rt, alloc, path)?;
-    rows.commit(alloc, row)?;
-    *open = Some(rows);
-    Ok(())
 }

@@ -29,7 +29,7 @@ fn keeper_at(rt: HostRuntime, path: &str) -> Result<SqliteKeeper<HostRuntime>, F
     Ok(SqliteKeeper::new(rt, String::from_str(rt.alloc(), path)?))
 }
 
-/// Commits rows, and a key that is no text before the last one, after which the keeper opens its file anew.
+/// Commits rows, and a key that is no text before the last one.
 fn commit_rows<K: Keeper>(alloc: Global, keeper: &mut K) -> Result<(), Fail> {
     keeper.commit(alloc, &row(alloc, b"XX2-12", b"one")?)?;
     keeper.commit(alloc, &row(alloc, b"XX10-12", b"FLIGHT 1\n")?)?;
@@ -58,20 +58,46 @@ fn fails<K: Keeper>(alloc: Global, keeper: &mut K) -> Result<bool, Fail> {
     )
 }
 
+/// The rows that are in a store then.
+const COMMITTED: &[(&[u8], &[u8])] = &[(b"XX10-12", b"FLIGHT 1\n"), (b"XX2-12", b"three")];
+
 #[test]
 fn another_keeper_loads_what_was_committed(rt: HostRuntime) -> Result<(), Fail> {
     let alloc = rt.alloc();
     let path = path_of(&rt, "rows")?;
     let mut first = keeper_at(rt, path.as_str())?;
     let mut second = keeper_at(rt, path.as_str())?;
-    let is_empty = has(alloc, &mut first, &[]);
+    let is_empty = has(alloc, &mut first, &[]) && has(alloc, &mut second, &[]);
     commit_rows(alloc, &mut first)?;
-    let is_locked = fails(alloc, &mut second)?;
+    let are_there = has(alloc, &mut second, COMMITTED);
+    second.commit(alloc, &row(alloc, b"XX2-12", b"four")?)?;
+    first.commit(alloc, &row(alloc, b"XX3-12", b"five")?)?;
     drop(first);
-    let wanted: &[(&[u8], &[u8])] = &[(b"XX10-12", b"FLIGHT 1\n"), (b"XX2-12", b"three")];
-    let are_there = has(alloc, &mut second, wanted);
+    let wanted: &[(&[u8], &[u8])] = &[
+        (b"XX10-12", b"FLIGHT 1\n"),
+        (b"XX2-12", b"four"),
+        (b"XX3-12", b"five"),
+    ];
+    let are_all_there = has(alloc, &mut second, wanted);
     drop(second);
-    assert!(rt; is_empty && is_locked && are_there);
+    assert!(rt; is_empty && are_there && are_all_there);
+    remove(&rt, path.as_str())
+}
+
+#[test]
+fn a_store_that_was_moved_away_is_a_failure(rt: HostRuntime) -> Result<(), Fail> {
+    let alloc = rt.alloc();
+    let (path, other) = (path_of(&rt, "place")?, path_of(&rt, "other-place")?);
+    let mut keeper = keeper_at(rt, path.as_str())?;
+    commit_rows(alloc, &mut keeper)?;
+    fs::rename(&rt, path.as_str(), other.as_str())?;
+    let is_missed = fails(alloc, &mut keeper)? && !fs::exists(&rt, path.as_str())?;
+    fs::copy(&rt, other.as_str(), path.as_str())?;
+    let is_told_from_a_copy = fails(alloc, &mut keeper)?;
+    fs::rename(&rt, other.as_str(), path.as_str())?;
+    let is_back = has(alloc, &mut keeper, COMMITTED);
+    drop(keeper);
+    assert!(rt; is_missed && is_told_from_a_copy && is_back);
     remove(&rt, path.as_str())
 }
 

@@ -150,3 +150,37 @@ fn rows_that_a_keeper_does_not_have_are_a_failure(rt: HostRuntime) -> Result<(),
     }
     Ok(())
 }
+
+/// Commits this many rows, the last key first.
+fn commit_many<S: Alter>(alloc: Global, conn: &mut Connection<S>, count: u16) -> Result<(), Fail> {
+    for n in (0..count).rev() {
+        let key = format!(in alloc; "XX{}-12", 1000 + u32::from(n))?;
+        put(alloc, conn, key.as_bytes(), key.as_bytes())?;
+    }
+    Ok(())
+}
+
+/// Whether these are the rows so committed, in the order of their keys.
+fn are_many(alloc: Global, rows: &[KeptRow], count: u16) -> Result<bool, Fail> {
+    if rows.len() != usize::from(count) {
+        return Ok(false);
+    }
+    for (n, row) in (0..count).zip(rows) {
+        let key = format!(in alloc; "XX{}-12", 1000 + u32::from(n))?;
+        if row.key.as_slice() != key.as_bytes() || row.bytes.as_slice() != key.as_bytes() {
+            return Ok(false);
+        }
+    }
+    Ok(true)
+}
+
+#[test]
+fn three_hundred_rows_are_loaded(rt: HostRuntime) -> Result<(), Fail> {
+    let alloc = rt.alloc();
+    let mut conn = Connection::open_in_memory(alloc)?;
+    prepare(alloc, &mut conn)?;
+    commit_many(alloc, &mut conn, 300)?;
+    let rows = load(alloc, &mut conn)?;
+    assert!(rt; are_many(alloc, &rows, 300)?);
+    Ok(())
+}
