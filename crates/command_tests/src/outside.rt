@@ -28,6 +28,14 @@ fn a_real_file_that_does_not_exist_ends_the_run(rt: HostRuntime) -> Result<(), F
     Ok(())
 }
 
+#[test]
+fn a_load_that_is_made_needs_no_file(rt: HostRuntime) -> Result<(), Fail> {
+    let alloc = rt.alloc();
+    let summary = ran_on(alloc, "gen,0", &mut failing_shelf(alloc)?, 1_000)?;
+    assert_eq!(rt; summary.as_str(), due(alloc, "0", "load_0")?.as_str());
+    Ok(())
+}
+
 /// A shelf with a file `t` of so many bytes.
 fn long_shelf(alloc: Global, length: usize) -> Result<MemoryShelf, NoMemory> {
     let mut files = Vec::new(alloc);

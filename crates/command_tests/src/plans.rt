@@ -61,6 +61,17 @@ fn a_wrong_file_is_refused_with_its_line(rt: HostRuntime) -> Result<(), Fail> {
 }
 
 #[test]
+fn a_load_is_made_from_a_number(rt: HostRuntime) -> Result<(), Fail> {
+    let cases = "
+        gen,0|nothing|nothing|0|load_0
+        gen|nothing|nothing|2|USAGE
+        gen,00|nothing|nothing|2|USAGE
+        gen,4294967296|nothing|nothing|2|USAGE
+        gen,0,20000|nothing|nothing|2|USAGE";
+    check(&rt, rt.alloc(), cases)
+}
+
+#[test]
 fn invalid_arguments_are_refused(rt: HostRuntime) -> Result<(), Fail> {
     let cases = "
         nothing|positions,items,indices|nothing|2|USAGE

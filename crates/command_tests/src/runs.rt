@@ -1,6 +1,7 @@
 // Texts by name, and what a run over them prints.
 use desk_base::NoMemory;
 use load_io::{MemoryShelf, MemorySink, Shelf};
+use placer::Direct;
 use plan_commands::print;
 use std::alloc::Global;
 use std::process::Abort;
@@ -202,6 +203,17 @@ leaf 1
 END
 ";
 
+/// The summary of the load that is made from 0.
+const LOAD_0: &str = "GEN 0
+mass 50712
+PLAN
+index 44.04800
+distance 0.00000
+cuts 1880
+expanded 48
+END
+";
+
 /// The text that has this name.
 fn named(name: &str) -> Option<&'static str> {
     Some(match name {
@@ -229,6 +241,7 @@ fn named(name: &str) -> Option<&'static str> {
         "forward_tree" => FORWARD_TREE,
         "aft_tree" => AFT_TREE,
         "siblings" => SIBLINGS,
+        "load_0" => LOAD_0,
         "nothing" => "",
         _ => return None,
     })
@@ -278,7 +291,7 @@ pub fn ran_on<F: Shelf>(
 ) -> Result<String, NoMemory> {
     let words = words_of(alloc, words)?;
     let mut out = MemorySink::new(alloc, room, Vec::new(alloc))?;
-    let status = print(alloc, words.as_slice(), shelf, &mut out);
+    let status = print(alloc, words.as_slice(), shelf, &mut out, &Direct);
     let mut text = format!(in alloc; "{status} ")?;
     text.push_str(str::from_utf8(out.written()).unwrap_or("?"))?;
     Ok(text)

@@ -1,4 +1,4 @@
-// Plans and certificates by trees.
+// Plans by trees, and certificates of either kind.
 use crate::runs::{check, ran, ran_over};
 use desk_base::NoMemory;
 use std::alloc::Global;
@@ -30,10 +30,54 @@ fn wrong_certificates_of_trees_are_refused(rt: HostRuntime) -> Result<(), Fail> 
     let cases = "
         bestcheck,t,c|positions,items,indices|CERTIFICATE 3,best 12 41,clique 11 12,nearer,END|10|REJECTED 2 0
         bestcheck,t,c|positions,items,indices|CERTIFICATE 3,best 12 41,low 11 10000000000001 ; ;,nearer,END|10|REJECTED 3 0
-        bestcheck,t,c|positions,items,indices|plan|3|INPUT START
         bestcheck,t,c|positions,items,indices|CERTIFICATE 3,best 12 41,END|3|INPUT LINE 3
         bestcheck,t,c|positions,items,indices|trees,forward_tree|3|INPUT END
         bestcheck,t,c|positions,items,indices|trees,forward_tree,siblings,|3|INPUT LINE 17";
+    check(&rt, rt.alloc(), cases)
+}
+
+#[test]
+fn certificates_of_cuts_are_judged_as_by_check(rt: HostRuntime) -> Result<(), Fail> {
+    let cases = "
+        bestcheck,t,c|positions,items,indices|plan|0|GOOD BEST
+        bestcheck,t,c|positions,items,narrow|narrow_none|0|GOOD NONE
+        bestcheck,t,c|positions,items,indices|too_few|10|REJECTED 7
+        bestcheck,t,c|positions,items,indices|narrow_none|10|REJECTED 6 11 12
+        bestcheck,t,c|positions,items,indices|PLAN,CERTIFICATE 1,best 12 41|3|INPUT END
+        bestcheck,t,c|positions,items,indices|items|3|INPUT START";
+    check(&rt, rt.alloc(), cases)
+}
+
+/// A certificate with the start of one of the other kind before it, behind it or within it; and a start without its line feed.
+#[test]
+fn the_first_start_tells_the_kind(rt: HostRuntime) -> Result<(), Fail> {
+    let cases = "
+        bestcheck,t,c|positions,items,indices|CERTIFICATE 1,trees,forward_tree,aft_tree,siblings|3|INPUT LINE 2
+        bestcheck,t,c|positions,items,indices|CERTIFICATE 3,plan|3|INPUT LINE 2
+        bestcheck,t,c|positions,items,indices|plan,CERTIFICATE 3|3|INPUT LINE 12
+        bestcheck,t,c|positions,items,indices|CERTIFICATE 2,CERTIFICATE 13,plan|0|GOOD BEST
+        bestcheck,t,c|positions,items,indices|CERTIFICATE 1 ,CERTIFICATE,trees,forward_tree,aft_tree,siblings|0|GOOD BEST";
+    check(&rt, rt.alloc(), cases)?;
+    let cut = String::from_str(rt.alloc(), "CERTIFICATE 1")?;
+    let got = ran_over(
+        rt.alloc(),
+        "bestcheck,t,c",
+        "positions,items,indices",
+        cut,
+        100,
+    )?;
+    assert_eq!(rt; got.as_str(), "3 INPUT START\n");
+    Ok(())
+}
+
+/// So few looks at trees decide neither task, of which the first has 4 near prefixes and the second 1.
+#[test]
+fn what_the_trees_do_not_decide_the_budget_may(rt: HostRuntime) -> Result<(), Fail> {
+    let cases = "
+        best,t,1|positions,items,indices|nothing|5|UNDECIDED 1
+        best,t,3|positions,items,indices|nothing|5|UNDECIDED 3
+        best,t,4|positions,items,indices|nothing|0|plan
+        best,t,1|combined,loose 51 301,combined_indices|nothing|4|none";
     check(&rt, rt.alloc(), cases)
 }
 
@@ -51,9 +95,9 @@ fn best_refuses_what_place_refuses(rt: HostRuntime) -> Result<(), Fail> {
     check(&rt, rt.alloc(), cases)
 }
 
-/// What `bestcheck` says of the answer of `best`, if the answer begins so.
-fn judged(alloc: Global, task: &str, start: &str) -> Result<Option<String>, NoMemory> {
-    let answer = ran(alloc, "best,t", task, "nothing")?;
+/// What `bestcheck` says of the answer of `best` in these words, if the answer begins so.
+fn judged(alloc: Global, words: &str, task: &str, start: &str) -> Result<Option<String>, NoMemory> {
+    let answer = ran(alloc, words, task, "nothing")?;
     let Some(rest) = answer.strip_prefix(start) else {
         return Ok(None);
     };
@@ -66,18 +110,32 @@ fn judged(alloc: Global, task: &str, start: &str) -> Result<Option<String>, NoMe
 fn an_answer_of_best_is_good(rt: HostRuntime) -> Result<(), Fail> {
     let rows = [
         (
+            "best,t",
             "positions,items,indices",
             "0 PLAN\nplace AKE10001XX 12\nplace AKE10002XX 41\nindex 49.20000\ndistance 0.80000\nCERTIFICATE 3\nbest 12 41\n",
             "0 GOOD BEST\n",
         ),
         (
+            "best,t",
             "positions,items,narrow",
             "4 NONE\nCERTIFICATE 3\n",
             "0 GOOD NONE\n",
         ),
+        (
+            "best,t,4",
+            "positions,items,indices",
+            "0 PLAN\nplace AKE10001XX 12\nplace AKE10002XX 41\nindex 49.20000\ndistance 0.80000\nCERTIFICATE 1\nbest 12 41\n",
+            "0 GOOD BEST\n",
+        ),
+        (
+            "best,t,1",
+            "combined,loose 51 301,combined_indices",
+            "4 NONE\nCERTIFICATE 1\n",
+            "0 GOOD NONE\n",
+        ),
     ];
-    for (task, start, judgement) in rows {
-        let said = judged(rt.alloc(), task, start)?;
+    for (words, task, start, judgement) in rows {
+        let said = judged(rt.alloc(), words, task, start)?;
         assert_eq!(rt; said.as_deref(), Some(judgement));
     }
     Ok(())

@@ -39,7 +39,7 @@ pub fn run_one<Rt, F: Shelf, S: Source, O: Sink, K: Keeper, P: Placing>(
     match desk_of(words.as_slice()) {
         Some(names) => serve_desk(rt, alloc, names, shelf, input, out, keeper, placing),
         None => RanOne {
-            status: print(alloc, words.as_slice(), shelf, out),
+            status: print(alloc, words.as_slice(), shelf, out, placing),
             keeper,
             opening: Vec::new(alloc),
             history: Vec::new(alloc),

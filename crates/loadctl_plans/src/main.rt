@@ -3,6 +3,7 @@
 #![tactic(auto)]
 
 use load_io::{FileShelf, StdSink};
+use placer::Direct;
 use plan_commands::{Stop, arguments_from, exit_status, print};
 use std::env;
 use std::process::ExitCode;
@@ -12,7 +13,7 @@ fn main(rt: HostRuntime) -> ExitCode {
     let mut shelf = FileShelf::new(rt);
     let mut out = StdSink::new(rt);
     let status = match arguments_from(alloc, env::args(&rt)) {
-        Ok(arguments) => print(alloc, arguments.as_slice(), &mut shelf, &mut out),
+        Ok(arguments) => print(alloc, arguments.as_slice(), &mut shelf, &mut out, &Direct),
         Err(_) => exit_status(Err(Stop::NoMemory)),
     };
     ExitCode::from(status)

@@ -11,11 +11,12 @@ use Rattle.hold_limits.specs.Problem.{Problem}
 use Rattle.hold_limits.specs.Faults.{IsLawful}
 use Rattle.problem_text.specs.TaskText.{Spells}
 use Rattle.plan_commands.specs.ReplyText.{longest_task, longest_certificate, long_text}
-use Rattle.plan_commands.specs.Reply.{IsTaskIn, IsRefusal, IsCertificateRefusal, Holds}
-use Rattle.plan_commands.specs.TreeReply.{IsTreeRefusal}
-use Rattle.plan_commands.specs.TreeReply.IsTreeRefusal.{too_long as trees_too_long}
+use Rattle.plan_commands.specs.Reply.{IsTaskIn, IsRefusal, Holds}
+use Rattle.plan_commands.specs.NearReply.{IsCertificateRefusal}
+use Rattle.plan_commands.specs.AnyReply.{IsAnyRefusal}
+use Rattle.plan_commands.specs.AnyReply.IsAnyRefusal.{too_long as any_too_long}
 use Rattle.plan_commands.specs.Reply.IsRefusal.{too_long as task_too_long}
-use Rattle.plan_commands.specs.Reply.IsCertificateRefusal.{too_long as certificate_too_long}
+use Rattle.plan_commands.specs.NearReply.IsCertificateRefusal.{too_long as certificate_too_long}
 
 -- a lawful task that the bytes spell, as a reader returns it
 pub IsTaskIn-from_read : (bytes : List ℕ) (t : Problem) → length bytes ≤ longest_task → Spells bytes t → IsLawful t → IsTaskIn bytes t
@@ -44,8 +45,8 @@ long-refused line bytes is long = subst (IsRefusal bytes) (sym is) (task_too_lon
 pub long-certificate-refused : (t : Problem) (line bytes : List ℕ) → line ≡ long_text → longest_certificate < length bytes → IsCertificateRefusal t bytes line
 long-certificate-refused t line bytes is long = subst (IsCertificateRefusal t bytes) (sym is) (certificate_too_long long)
 
-pub long-trees-refused : (t : Problem) (line bytes : List ℕ) → line ≡ long_text → longest_certificate < length bytes → IsTreeRefusal t bytes line
-long-trees-refused t line bytes is long = subst (IsTreeRefusal t bytes) (sym is) (trees_too_long long)
+pub long-any-refused : (t : Problem) (line bytes : List ℕ) → line ≡ long_text → longest_certificate < length bytes → IsAnyRefusal t bytes line
+long-any-refused t line bytes is long = subst (IsAnyRefusal t bytes) (sym is) (any_too_long long)
 
 -- what holds of the error that `?` returns
 pub IfErr-from_residual : {X E : Type 0} (r : Result X E) (e : E) (P : E → Type 0) → IsErrAnd r (λ x. x ≡ e) → P e → IfErr r P

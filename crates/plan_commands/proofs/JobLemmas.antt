@@ -28,8 +28,11 @@ use Rattle.plan_commands.specs.declared.ending.Outcome.TheVariants.{Done, Nothin
 use Rattle.plan_commands.specs.Arguments.{usual_budget}
 use Rattle.plan_commands.specs.ReplyText.{plan_summary, none_summary, budget_summary}
 use Rattle.plan_commands.specs.Claims.{IsTrueOf}
-use Rattle.plan_commands.specs.Reply.{IsEvidence, IsPlacing, IsSummary}
-use Rattle.plan_commands.specs.Reply.IsPlacing.{plan, nothing_fits, over_budget}
+use Rattle.plan_commands.specs.Names.{IsNamedTask}
+use Rattle.plan_commands.proofs.ReadBack.{cuts-read_back}
+use Rattle.plan_commands.specs.NearReply.{IsEvidence, IsPlacing}
+use Rattle.plan_commands.specs.NearReply.IsPlacing.{plan, nothing_fits, over_budget}
+use Rattle.plan_commands.specs.Reply.{IsSummary}
 use Rattle.plan_commands.specs.Reply.IsSummary.{plan_summed, none_summed, budget_summed}
 
 -- a claim is true where a path that is claimed is the best, and where none is admissible if none is claimed
@@ -54,16 +57,19 @@ pub none_claimed : (t : Problem) (claim : Option (List ℕ)) → HasNoPlacement 
 none_claimed t None none is = refl
 none_claimed t (Some path) none is = absurd (none path is.admissible)
 
-plan-placing : (t : Problem) (budget : ℕ) (c : Certificate) (text : List ℕ) → IsSomeAnd (claimed c.claim) (IsBest t) → IsNearCertificate t c → IsGoodFor t c
-    → AreAtMost (IsNear t) budget → text ≡ evidence_text t c → IsPlacing t budget Done text
-plan-placing t budget c text best near good enough is =
+plan-placing : (t : Problem) (budget : ℕ) (c : Certificate) (text : List ℕ) → IsLawful t → IsNamedTask t → IsSomeAnd (claimed c.claim) (IsBest t) → IsNearCertificate t c
+    → IsGoodFor t c → AreAtMost (IsNear t) budget → text ≡ evidence_text t c → IsPlacing t budget Done text
+plan-placing t budget c text lawful named best near good enough is =
     let path = path_of (claimed c.claim) (IsBest t) best in
-    subst (IsPlacing t budget Done) (sym is) (plan path.0 c path.2 path.1 (record { near = near; good = good; enough = enough }))
+    subst (IsPlacing t budget Done) (sym is)
+    (plan path.0 c path.2 path.1 (record { near = near; good = good; enough = enough }) (cuts-read_back t budget c lawful named near good enough))
 
-none-placing : (t : Problem) (budget : ℕ) (c : Certificate) (text : List ℕ) → HasNoPlacement t → IsNearCertificate t c → IsGoodFor t c → AreAtMost (IsNear t) budget
-    → text ≡ evidence_text t c → IsPlacing t budget NothingFits text
-none-placing t budget c text none near good enough is =
-    subst (IsPlacing t budget NothingFits) (sym is) (nothing_fits c none (none_claimed t (claimed c.claim) none near.claim) (record { near = near; good = good; enough = enough }))
+none-placing : (t : Problem) (budget : ℕ) (c : Certificate) (text : List ℕ) → IsLawful t → IsNamedTask t → HasNoPlacement t → IsNearCertificate t c → IsGoodFor t c
+    → AreAtMost (IsNear t) budget → text ≡ evidence_text t c → IsPlacing t budget NothingFits text
+none-placing t budget c text lawful named none near good enough is =
+    subst (IsPlacing t budget NothingFits) (sym is)
+    (nothing_fits c none (none_claimed t (claimed c.claim) none near.claim) (record { near = near; good = good; enough = enough })
+    (cuts-read_back t budget c lawful named near good enough))
 
 budget-placing : (t : Problem) (budget spent : ℕ) (text : List ℕ) → spent ≡ budget → AreMoreThan (IsNear t) spent → text ≡ budget_text spent
     → IsPlacing t budget OverBudget text
@@ -101,13 +107,13 @@ budget-summary number t spent text made same more is =
 abbrev pub IsGoodAnswer : Answer → Type 0
 IsGoodAnswer answer = IfCertified answer (λ it. IsGoodFor it.task it.certificate)
 
-pub is-placing : (t : Problem) (budget : ℕ) (answer : Answer) (text : List ℕ) → IsAnswerTo t budget answer → IsGoodAnswer answer → text ≡ answer_text t answer
-    → IsPlacing t budget (outcome_of answer) text
-is-placing t budget (Best proven) text to good is =
-    plan-placing t budget proven.certificate text to.path to.near (subst (λ (p : Problem). IsGoodFor p proven.certificate) to.best good) to.enough is
-is-placing t budget (NoneFits no_plan) text to good is =
-    none-placing t budget no_plan.certificate text to.nothing to.near (subst (λ (p : Problem). IsGoodFor p no_plan.certificate) to.none good) to.enough is
-is-placing t budget (Budget n) text to good is = budget-placing t budget n text to.spent to.over is
+pub is-placing : (t : Problem) (budget : ℕ) (answer : Answer) (text : List ℕ) → IsLawful t → IsNamedTask t → IsAnswerTo t budget answer → IsGoodAnswer answer
+    → text ≡ answer_text t answer → IsPlacing t budget (outcome_of answer) text
+is-placing t budget (Best proven) text lawful named to good is =
+    plan-placing t budget proven.certificate text lawful named to.path to.near (subst (λ (p : Problem). IsGoodFor p proven.certificate) to.best good) to.enough is
+is-placing t budget (NoneFits no_plan) text lawful named to good is =
+    none-placing t budget no_plan.certificate text lawful named to.nothing to.near (subst (λ (p : Problem). IsGoodFor p no_plan.certificate) to.none good) to.enough is
+is-placing t budget (Budget n) text lawful named to good is = budget-placing t budget n text to.spent to.over is
 
 pub is-summary : (number : ℕ) (t : Problem) (answer : Answer) (text : List ℕ) → t ≡ generated_problem number → IsAnswerTo t usual_budget answer → IsGoodAnswer answer
     → IsSummaryText number answer text → IsSummary number (summary_outcome answer) text

@@ -1,5 +1,10 @@
 pub mod ArgumentLemmas
 pub mod FileLemmas
+pub mod AnyLemmas
+pub mod AnswerLines
+pub mod CutCounts
+pub mod ReadBack
+pub mod SpelledLemmas
 pub mod JobLemmas
 pub mod TreeJobLemmas
 pub mod AnswerLemmas

@@ -1,7 +1,7 @@
 -- Replies to the arguments: there is one job for them, and its input is right or refused, never both.
 use Rattle.std.proofs.Common.{◌≡◌, ◌≢◌, ℕ, List, Option, Some, None, arith, lit<, refl, sym, subst}
 use Rattle.std.specs.Option.{IsSomeAnd}
-use Rattle.std.specs.Prelude.{All, IfSome}
+use Rattle.std.specs.Prelude.{All}
 use Rattle.std.proofs.lemmas.List.Elements.{All-weaker}
 use Rattle.load_io.specs.Shelf.{Files}
 use Rattle.hold_parts.specs.Spellings.{IsName}
@@ -19,22 +19,26 @@ use Rattle.tree_certificate.proofs.ReadLemmas.{spelled_has_no_fault as trees_hav
 use Rattle.plan_commands.specs.declared.ending.Outcome.{Outcome}
 use Rattle.plan_commands.specs.declared.ending.Outcome.TheVariants.{Usage, BadInput}
 use Rattle.plan_commands.specs.Arguments.{Job, IsCommand, AreInvalid}
+use Rattle.plan_commands.specs.Arguments.Job.{generate}
 use Rattle.plan_commands.specs.ReplyText.{usage_text}
+use Rattle.plan_commands.specs.NearReply.{IsCertificateIn, IsCertificateRefusal, IsPlacing, IsJudgement}
+use Rattle.plan_commands.specs.NearReply.IsCertificateRefusal.{too_long as certificate_too_long, no_certificate}
+use Rattle.plan_commands.specs.NearReply.IsPlacing.{plan, nothing_fits, over_budget}
+use Rattle.plan_commands.specs.NearReply.IsJudgement.{good, rejected}
 use Rattle.plan_commands.specs.TreeReply.{AreTreesIn, IsTreeRefusal, IsTreePlacing, IsTreeJudgement}
 use Rattle.plan_commands.specs.TreeReply.IsTreeRefusal.{too_long as trees_too_long, no_trees}
-use Rattle.plan_commands.specs.TreeReply.IsTreePlacing.{plan as tree_plan, nothing_fits as tree_nothing_fits, undecided}
+use Rattle.plan_commands.specs.TreeReply.IsTreePlacing.{plan as tree_plan, nothing_fits as tree_nothing_fits, near_plan, nothing_near, undecided}
 use Rattle.plan_commands.specs.TreeReply.IsTreeJudgement.{good as good_trees, rejected as rejected_trees}
-use Rattle.plan_commands.specs.Reply.{IsTaskIn, IsRefusal, IsCertificateIn, IsCertificateRefusal, IsCertificateFile, IsTreeFile, IsPlacing, IsJudgement, IsSummary, IsAnswer, IsBadInput, IsReply, HasInput, HaveInput, HaveBadInput, IsAnswered}
+use Rattle.plan_commands.specs.AnyReply.{AnyListed, IsAnyIn, IsAnyRefusal, IsAnyJudgement}
+use Rattle.plan_commands.specs.AnyReply.AnyListed.{of_cuts, of_trees}
+use Rattle.plan_commands.specs.AnyReply.IsAnyRefusal.{too_long as any_too_long, no_cuts, no_trees as none_of_trees}
+use Rattle.plan_commands.specs.Reply.{IsTaskIn, IsRefusal, IsCertificateFile, IsAnyFile, IsSummary, IsAnswer, IsAnswerAlone, IsAnswerOver, IsBadInput, NeedsFiles, IsBadInputOver, IsReply, IsReplyOver, HasInput, HaveInput, HaveBadInput, IsAnswered}
 use Rattle.plan_commands.specs.Reply.IsRefusal.{too_long as task_too_long, no_task}
-use Rattle.plan_commands.specs.Reply.IsCertificateRefusal.{too_long as certificate_too_long, no_certificate}
-use Rattle.plan_commands.specs.Reply.IsPlacing.{plan, nothing_fits, over_budget}
-use Rattle.plan_commands.specs.Reply.IsJudgement.{good, rejected}
 use Rattle.plan_commands.specs.Reply.IsSummary.{plan_summed, none_summed, budget_summed}
-use Rattle.plan_commands.specs.Reply.IsAnswer.{placed, judged, placed_by_trees, trees_judged, summed}
-use Rattle.plan_commands.specs.Reply.IsBadInput.{bad_task, bad_checked_task, bad_certificate, bad_best_task, bad_task_of_trees, bad_trees}
+use Rattle.plan_commands.specs.Reply.IsAnswer.{placed, judged, placed_by_trees, any_judged, summed}
+use Rattle.plan_commands.specs.Reply.IsBadInput.{bad_task, bad_checked_task, bad_certificate, bad_best_task, bad_task_of_any, bad_any}
 use Rattle.plan_commands.specs.Reply.IsReply.{answered, refused, usage}
 use Rattle.plan_commands.specs.Reply.IsAnswered.{is_done, is_nothing_fits, is_over_budget, is_undecided, is_rejected}
-use Rattle.plan_commands.specs.Run.{IsReplyOver}
 use Rattle.plan_commands.proofs.OneJob.{one_form}
 
 -- Right and refused -----------------------------------------------------------------------------
@@ -69,6 +73,15 @@ trees-not_refused t bytes _ c named right (no_trees fault line short why is) =
     let none : fault ≡ cert.NoMemory = trees_have_no_fault t.hold.positions named bytes c fault right.spelled why in
     rw none at is
 
+any-not_refused : (t : Problem) (bytes line : List ℕ) (c : AnyListed) → All (λ (q : Position). IsName q.name) t.hold.positions
+    → IsAnyIn t bytes c → IsAnyRefusal t bytes line → ⊥
+any-not_refused t bytes _ (of_cuts c) named right (any_too_long long) = absurd (omega (arith, right.1.short))
+any-not_refused t bytes _ (of_cuts c) named right (no_cuts line begins refusal) = certificate-not_refused t bytes line c named right.1 refusal
+any-not_refused t bytes _ (of_cuts c) named right (none_of_trees line none refusal) = none right.0
+any-not_refused t bytes _ (of_trees c) named right (any_too_long long) = absurd (omega (arith, right.1.short))
+any-not_refused t bytes _ (of_trees c) named right (no_cuts line begins refusal) = right.0 begins
+any-not_refused t bytes _ (of_trees c) named right (none_of_trees line none refusal) = trees-not_refused t bytes line c named right.1 refusal
+
 -- the files of a job are not refused where they are right
 right-not_bad : (files : Files) (job : Job) (line : List ℕ) → IsBadInput files job line → HasInput files job → ⊥
 right-not_bad files _ _ (bad_task task budget line wrong) input =
@@ -84,21 +97,21 @@ right-not_bad files _ _ (bad_certificate task certificate t line there wrong) in
     (λ evidence whole refusal. certificate-not_refused t evidence line input.1 (names bytes t other) whole refusal))
 right-not_bad files _ _ (bad_best_task task looks line wrong) input =
     both (files task) (λ bytes. IsTaskIn bytes input.0) (λ bytes. IsRefusal bytes line) input.1 wrong (λ bytes right long. task-not_refused bytes line input.0 right long)
-right-not_bad files _ _ (bad_task_of_trees task certificate line wrong) input =
+right-not_bad files _ _ (bad_task_of_any task certificate line wrong) input =
     both (files task) (λ bytes. IsTaskIn bytes input.0) (λ bytes. IsRefusal bytes line) input.2 wrong (λ bytes right long. task-not_refused bytes line input.0 right long)
-right-not_bad files _ _ (bad_trees task certificate t line there wrong) input =
+right-not_bad files _ _ (bad_any task certificate t line there wrong) input =
     both (files task) (λ bytes. IsTaskIn bytes input.0) (λ bytes. IsTaskIn bytes t) input.2 there
     (λ bytes right other.
     let same : input.0 ≡ t = spelled_once bytes input.0 t right.spelled other.spelled in
-    both (files certificate) (λ bytes. AreTreesIn t bytes input.1) (λ bytes. IsTreeRefusal t bytes line)
-    (subst (λ (p : Problem). IsTreeFile files certificate p input.1) same input.3) wrong
-    (λ evidence whole refusal. trees-not_refused t evidence line input.1 (names bytes t other) whole refusal))
+    both (files certificate) (λ bytes. IsAnyIn t bytes input.1) (λ bytes. IsAnyRefusal t bytes line)
+    (subst (λ (p : Problem). IsAnyFile files certificate p input.1) same input.3) wrong
+    (λ evidence whole refusal. any-not_refused t evidence line input.1 (names bytes t other) whole refusal))
 
 -- Answers ---------------------------------------------------------------------------------------
 
 pub placing-answered : (t : Problem) (budget : ℕ) (outcome : Outcome) (text : List ℕ) → IsPlacing t budget outcome text → IsAnswered outcome
-placing-answered t budget _ _ (plan path c best claim evidence) = is_done
-placing-answered t budget _ _ (nothing_fits c none claim evidence) = is_nothing_fits
+placing-answered t budget _ _ (plan path c best claim evidence back) = is_done
+placing-answered t budget _ _ (nothing_fits c none claim evidence back) = is_nothing_fits
 placing-answered t budget _ _ (over_budget more) = is_over_budget
 
 pub judgement-answered : (t : Problem) (c : Certificate) (outcome : Outcome) (text : List ℕ) → IsJudgement t c outcome text → IsAnswered outcome
@@ -111,26 +124,32 @@ summary-answered number _ _ (none_summed c none claim evidence) = is_done
 summary-answered number _ _ (budget_summed more) = is_over_budget
 
 pub tree-placing-answered : (t : Problem) (looks : ℕ) (outcome : Outcome) (text : List ℕ) → IsTreePlacing t looks outcome text → IsAnswered outcome
-tree-placing-answered t looks _ _ (tree_plan path c best claim is_good) = is_done
-tree-placing-answered t looks _ _ (tree_nothing_fits c none claim is_good) = is_nothing_fits
-tree-placing-answered t looks _ _ undecided = is_undecided
+tree-placing-answered t looks _ _ (tree_plan path c best claim is_good back) = is_done
+tree-placing-answered t looks _ _ (tree_nothing_fits c none claim is_good back) = is_nothing_fits
+tree-placing-answered t looks _ _ (near_plan path c best claim evidence back) = is_done
+tree-placing-answered t looks _ _ (nothing_near c none claim evidence back) = is_nothing_fits
+tree-placing-answered t looks _ _ (undecided more) = is_undecided
 
-pub tree-judgement-answered : (t : Problem) (c : ListedTrees) (outcome : Outcome) (text : List ℕ) → IsTreeJudgement t c outcome text → IsAnswered outcome
+tree-judgement-answered : (t : Problem) (c : ListedTrees) (outcome : Outcome) (text : List ℕ) → IsTreeJudgement t c outcome text → IsAnswered outcome
 tree-judgement-answered t c _ _ (good_trees is so) = is_done
 tree-judgement-answered t c _ _ (rejected_trees reason line not_good first is) = is_rejected
+
+pub any-judgement-answered : (t : Problem) (c : AnyListed) (outcome : Outcome) (text : List ℕ) → IsAnyJudgement t c outcome text → IsAnswered outcome
+any-judgement-answered t (of_cuts c) outcome text is = judgement-answered t c outcome text is
+any-judgement-answered t (of_trees c) outcome text is = tree-judgement-answered t c outcome text is
 
 answer-answered : (files : Files) (job : Job) (outcome : Outcome) (text : List ℕ) → IsAnswer files job outcome text → IsAnswered outcome
 answer-answered files _ _ _ (placed task budget t outcome text file is) = placing-answered t budget outcome text is
 answer-answered files _ _ _ (judged task certificate t c outcome text file evidence is) = judgement-answered t c outcome text is
 answer-answered files _ _ _ (placed_by_trees task looks t outcome text file is) = tree-placing-answered t looks outcome text is
-answer-answered files _ _ _ (trees_judged task certificate t c outcome text file evidence is) = tree-judgement-answered t c outcome text is
+answer-answered files _ _ _ (any_judged task certificate t c outcome text file evidence is) = any-judgement-answered t c outcome text is
 answer-answered files _ _ _ (summed number outcome text is) = summary-answered number outcome text is
 
 answer-input : (files : Files) (job : Job) (outcome : Outcome) (text : List ℕ) → IsAnswer files job outcome text → HasInput files job
 answer-input files _ _ _ (placed task budget t outcome text file is) = (t, file)
 answer-input files _ _ _ (judged task certificate t c outcome text file evidence is) = (t, c, file, evidence)
 answer-input files _ _ _ (placed_by_trees task looks t outcome text file is) = (t, file)
-answer-input files _ _ _ (trees_judged task certificate t c outcome text file evidence is) = (t, c, file, evidence)
+answer-input files _ _ _ (any_judged task certificate t c outcome text file evidence is) = (t, c, file, evidence)
 answer-input files _ _ _ (summed number outcome text is) = tt
 
 pub answered-not_usage : (outcome : Outcome) → IsAnswered outcome → outcome ≢ Usage
@@ -160,16 +179,18 @@ bad_input-from_reply arguments files _ _ input (usage invalid) = absurd (invalid
 
 pub usage-reply : (arguments : List (List ℕ)) (exposed : Option Files) (outcome : Outcome) (text : List ℕ) → AreInvalid arguments → outcome ≡ Usage → text ≡ usage_text
     → IsReplyOver arguments exposed outcome text
-usage-reply arguments None outcome text invalid is line = tt
+usage-reply arguments None outcome text invalid is line = λ number command. absurd (invalid (generate number) command)
 usage-reply arguments (Some files) outcome text invalid is line =
     subst (λ o. IsReply arguments files o text) (sym is) (subst (IsReply arguments files Usage) (sym line) (usage invalid))
 
 pub answered-reply : (arguments : List (List ℕ)) (exposed : Option Files) (job : Job) (outcome : Outcome) (text : List ℕ) → IsCommand arguments job
-    → IfSome exposed (λ files. IsAnswer files job outcome text) → IsReplyOver arguments exposed outcome text
-answered-reply arguments None job outcome text command is = tt
+    → IsAnswerOver exposed job outcome text → IsReplyOver arguments exposed outcome text
+answered-reply arguments None job outcome text command is = λ number generates.
+    subst (λ j. IsAnswerAlone j outcome text) (one_form arguments job (generate number) command.form generates.form) is
 answered-reply arguments (Some files) job outcome text command is = answered job outcome text command is
 
 pub refused-reply : (arguments : List (List ℕ)) (exposed : Option Files) (job : Job) (line : List ℕ) → IsCommand arguments job
-    → IfSome exposed (λ files. IsBadInput files job line) → IsReplyOver arguments exposed BadInput line
-refused-reply arguments None job line command is = tt
+    → IsBadInputOver exposed job line → IsReplyOver arguments exposed BadInput line
+refused-reply arguments None job line command is = λ number generates.
+    absurd (subst NeedsFiles (one_form arguments job (generate number) command.form generates.form) is)
 refused-reply arguments (Some files) job line command is = refused job line command is

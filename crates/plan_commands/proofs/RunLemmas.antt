@@ -1,5 +1,5 @@
 -- How a run ends, from its reply and from what was written of it.
-use Rattle.std.proofs.Common.{◌≡◌, ◌≢◌, ℕ, List, Option, Some, Result, Ok, Err, refl, sym, ap, subst, ◌∙◌}
+use Rattle.std.proofs.Common.{◌≡◌, ◌≢◌, ℕ, List, Option, Some, Result, Ok, Err, sym, ap, subst, ◌∙◌}
 use Rattle.std.specs.Result.{IfOk, IfErr, IsErrAnd}
 use Rattle.desk_base.specs.Faults.{Rose}
 use Rattle.load_io.specs.Shelf.{Files}
@@ -10,8 +10,8 @@ use Rattle.plan_commands.specs.declared.ending.Stop.{Stop}
 use Rattle.plan_commands.specs.declared.ending.Stop.TheVariants.{ReadFault, WriteFault, NoMemory}
 use Rattle.plan_commands.specs.Arguments.{AreInvalid}
 use Rattle.plan_commands.specs.ReplyText.{usage_text}
-use Rattle.plan_commands.specs.Reply.{IsReply}
-use Rattle.plan_commands.specs.Run.{Outside, exit_status, IsReplyOver, IsRun, ExitsWith}
+use Rattle.plan_commands.specs.Reply.{IsReply, IsReplyOver}
+use Rattle.plan_commands.specs.Run.{Outside, IsRun}
 use Rattle.plan_commands.specs.Run.Ends.{replied, read_fault, write_fault, no_memory}
 use Rattle.plan_commands.proofs.ReplyLemmas.{answered-from_reply, bad_input-from_reply}
 

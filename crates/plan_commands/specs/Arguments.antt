@@ -30,10 +30,10 @@ pub data Job : Type 0 where
   place : (task : List ℕ) (budget : ℕ) → Job
   -- whether a certificate in a file is good for the task in another
   check : (task certificate : List ℕ) → Job
-  -- the best placement of the task in a file by trees, with so many looks
+  -- the best placement of the task in a file by trees, with so many looks, or by the best-first search where these do not decide it
   best : (task : List ℕ) (looks : ℕ) → Job
-  -- whether a certificate of trees in a file is good for the task in another
-  check_trees : (task certificate : List ℕ) → Job
+  -- whether a certificate of either kind in a file is good for the task in another
+  check_any : (task certificate : List ℕ) → Job
   -- the placement of the load that is made from a number
   generate : (number : ℕ) → Job
 
@@ -54,7 +54,7 @@ pub data AskFor (arguments : List (List ℕ)) : Job → Type 0 where
       → AskFor arguments (best task looks)
   -- `bestcheck TASK CERTIFICATE`
   check_best : (task certificate : List ℕ) → arguments ≡ codes "bestcheck" ∷ task ∷ certificate ∷ []
-      → AskFor arguments (check_trees task certificate)
+      → AskFor arguments (check_any task certificate)
   -- `gen NUMBER`
   generate_load : (number : ℕ) → arguments ≡ codes "gen" ∷ number_text number ∷ [] → number < 2 ^ 32 → AskFor arguments (generate number)
 

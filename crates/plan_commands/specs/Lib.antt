@@ -4,6 +4,10 @@ pub mod Halts
 pub mod Outcomes
 pub mod ReplyText
 pub mod Claims
+pub mod Kinds
+pub mod Names
+pub mod NearReply
 pub mod TreeReply
+pub mod AnyReply
 pub mod Reply
 pub mod Run

@@ -1,5 +1,5 @@
 -- The reply to the arguments, where these are the files.
-use Rattle.std.specs.Prelude.{◌≡◌, ℕ, ◌<◌, ◌≤◌, List, length, Some, None, IsSomeAnd}
+use Rattle.std.specs.Prelude.{◌≡◌, ℕ, ◌<◌, ◌≤◌, List, length, Option, Some, None, IsSomeAnd, MatchOption}
 use Rattle.hold_limits.specs.Problem.{Problem}
 use Rattle.hold_limits.specs.Placement.{IsBest}
 use Rattle.hold_limits.specs.Faults.{hold_fault, task_fault}
@@ -7,26 +7,19 @@ use Rattle.problem_text.specs.TaskText.{Spells}
 use Rattle.problem_text.specs.Refusals.{IsRefused}
 use Rattle.problem_text.specs.declared.fault.TextFault.{TextFault}
 use Rattle.certificate.specs.Evidence.{claimed}
-use Rattle.certificate.specs.Good.{AreAtMost}
-use Rattle.certificate.specs.CertificateText as certificate_text
-use Rattle.certificate.specs.Refusals as certificate_refusals
-use Rattle.certificate.specs.declared.fault.CertFault.{CertFault}
 use Rattle.certificate.specs.declared.parts.Certificate.{Certificate}
-use Rattle.cert_checker.specs.Claims.{HasNoPlacement, IsGoodFor}
-use Rattle.cert_checker.specs.FirstReason.{IsFirstReason}
-use Rattle.cert_checker.specs.declared.reject.Reject.{Reject}
-use Rattle.tree_certificate.specs.Listed.{ListedTrees}
-use Rattle.placer.specs.Near.{AreMoreThan, IsNear, IsNearCertificate}
-use Rattle.placer.specs.AnswerText.{evidence_text, budget_text}
+use Rattle.cert_checker.specs.Claims.{HasNoPlacement}
+use Rattle.placer.specs.Near.{AreMoreThan, IsNear}
 use Rattle.generated_load.specs.Load.{generated_problem}
 use Rattle.load_io.specs.Shelf.{Files}
 use Rattle.plan_commands.specs.declared.ending.Outcome.{Outcome}
 use Rattle.plan_commands.specs.declared.ending.Outcome.TheVariants.{Done, Usage, BadInput, NothingFits, OverBudget, Undecided, Rejected}
 use Rattle.plan_commands.specs.Arguments.{Job, IsCommand, AreInvalid, usual_budget}
-use Rattle.plan_commands.specs.Arguments.Job.{place, check, best, check_trees, generate}
-use Rattle.plan_commands.specs.ReplyText.{longest_task, longest_certificate, IsFaultLine, IsCertificateFaultLine, long_text, usage_text, good_text, rejected_text, plan_summary, none_summary, budget_summary}
-use Rattle.plan_commands.specs.Claims.{IsTrueOf}
-use Rattle.plan_commands.specs.TreeReply.{AreTreesIn, IsTreeRefusal, IsTreePlacing, IsTreeJudgement}
+use Rattle.plan_commands.specs.Arguments.Job.{place, check, best, check_any, generate}
+use Rattle.plan_commands.specs.ReplyText.{longest_task, IsFaultLine, long_text, usage_text, plan_summary, none_summary, budget_summary}
+use Rattle.plan_commands.specs.NearReply.{IsCertificateIn, IsCertificateRefusal, IsEvidence, IsPlacing, IsJudgement}
+use Rattle.plan_commands.specs.TreeReply.{IsTreePlacing}
+use Rattle.plan_commands.specs.AnyReply.{AnyListed, IsAnyIn, IsAnyRefusal, IsAnyJudgement}
 
 -- Files -----------------------------------------------------------------------------------------
 
@@ -45,19 +38,6 @@ pub data IsRefusal (bytes : List ℕ) : List ℕ → Type 0 where
   no_task : (fault : TextFault) (line : List ℕ) → length bytes ≤ longest_task → IsRefused bytes fault → IsFaultLine fault line
       → IsRefusal bytes line
 
--- the bytes of a file are not too many, and spell this certificate for the task
-pub record IsCertificateIn (t : Problem) (bytes : List ℕ) (c : Certificate) : Type 0 where
-  pub short : length bytes ≤ longest_certificate
-  pub spelled : certificate_text.Spells t.hold.positions bytes c
-
--- the bytes of a certificate's file are refused with this line
-pub data IsCertificateRefusal (t : Problem) (bytes : List ℕ) : List ℕ → Type 0 where
-  -- they are too many
-  too_long : longest_certificate < length bytes → IsCertificateRefusal t bytes long_text
-  -- they spell no certificate: this is their first fault
-  no_certificate : (fault : CertFault) (line : List ℕ) → length bytes ≤ longest_certificate
-      → certificate_refusals.IsRefused t.hold.positions bytes fault → IsCertificateFaultLine fault line → IsCertificateRefusal t bytes line
-
 -- there is a file of this name, and this holds of its bytes
 abbrev pub Holds : Files → List ℕ → (List ℕ → Type 0) → Type 0
 Holds files name P = IsSomeAnd (files name) P
@@ -74,38 +54,13 @@ IsCertificateFile files name t c = Holds files name (λ bytes. IsCertificateIn t
 abbrev pub IsRefusedCertificate : Files → List ℕ → Problem → List ℕ → Type 0
 IsRefusedCertificate files name t line = Holds files name (λ bytes. IsCertificateRefusal t bytes line)
 
-abbrev pub IsTreeFile : Files → List ℕ → Problem → ListedTrees → Type 0
-IsTreeFile files name t c = Holds files name (λ bytes. AreTreesIn t bytes c)
+abbrev pub IsAnyFile : Files → List ℕ → Problem → AnyListed → Type 0
+IsAnyFile files name t c = Holds files name (λ bytes. IsAnyIn t bytes c)
 
-abbrev pub AreRefusedTrees : Files → List ℕ → Problem → List ℕ → Type 0
-AreRefusedTrees files name t line = Holds files name (λ bytes. IsTreeRefusal t bytes line)
+abbrev pub IsRefusedAny : Files → List ℕ → Problem → List ℕ → Type 0
+IsRefusedAny files name t line = Holds files name (λ bytes. IsAnyRefusal t bytes line)
 
 -- Answers ---------------------------------------------------------------------------------------
-
--- the near certificate of the task, which is good; and no more prefixes are near than the budget
-pub record IsEvidence (t : Problem) (budget : ℕ) (c : Certificate) : Type 0 where
-  pub near : IsNearCertificate t c
-  pub good : IsGoodFor t c
-  pub enough : AreAtMost (IsNear t) budget
-
--- the placement of a task with a budget: an outcome and its text
-pub data IsPlacing (t : Problem) (budget : ℕ) : Outcome → List ℕ → Type 0 where
-  -- the best plan
-  plan : (path : List ℕ) (c : Certificate) → IsBest t path → claimed c.claim ≡ Some path → IsEvidence t budget c
-      → IsPlacing t budget Done (evidence_text t c)
-  -- nothing fits, and no path is admissible
-  nothing_fits : (c : Certificate) → HasNoPlacement t → claimed c.claim ≡ None → IsEvidence t budget c
-      → IsPlacing t budget NothingFits (evidence_text t c)
-  -- more prefixes are near than the budget
-  over_budget : AreMoreThan (IsNear t) budget → IsPlacing t budget OverBudget (budget_text budget)
-
--- the judgement of a certificate for a task
-pub data IsJudgement (t : Problem) (c : Certificate) : Outcome → List ℕ → Type 0 where
-  -- it is good, so that what it claims is true
-  good : IsGoodFor t c → IsTrueOf t (claimed c.claim) → IsJudgement t c Done (good_text c.claim)
-  -- this is the first reason for which it is not good
-  rejected : (reason : Reject) → IsFirstReason t (claimed c.claim) c.cuts c.expanded reason
-      → IsJudgement t c Rejected (rejected_text t reason)
 
 -- the summary of the placement of a generated load
 pub data IsSummary (number : ℕ) : Outcome → List ℕ → Type 0 where
@@ -123,8 +78,8 @@ pub data IsAnswer (files : Files) : Job → Outcome → List ℕ → Type 0 wher
       → IsCertificateFile files certificate t c → IsJudgement t c outcome text → IsAnswer files (check task certificate) outcome text
   placed_by_trees : (task : List ℕ) (looks : ℕ) (t : Problem) (outcome : Outcome) (text : List ℕ) → IsTaskFile files task t
       → IsTreePlacing t looks outcome text → IsAnswer files (best task looks) outcome text
-  trees_judged : (task certificate : List ℕ) (t : Problem) (c : ListedTrees) (outcome : Outcome) (text : List ℕ) → IsTaskFile files task t
-      → IsTreeFile files certificate t c → IsTreeJudgement t c outcome text → IsAnswer files (check_trees task certificate) outcome text
+  any_judged : (task certificate : List ℕ) (t : Problem) (c : AnyListed) (outcome : Outcome) (text : List ℕ) → IsTaskFile files task t
+      → IsAnyFile files certificate t c → IsAnyJudgement t c outcome text → IsAnswer files (check_any task certificate) outcome text
   summed : (number : ℕ) (outcome : Outcome) (text : List ℕ) → IsSummary number outcome text → IsAnswer files (generate number) outcome text
 
 -- the first file of a job that is refused, and its line
@@ -134,9 +89,9 @@ pub data IsBadInput (files : Files) : Job → List ℕ → Type 0 where
   bad_certificate : (task certificate : List ℕ) (t : Problem) (line : List ℕ) → IsTaskFile files task t → IsRefusedCertificate files certificate t line
       → IsBadInput files (check task certificate) line
   bad_best_task : (task : List ℕ) (looks : ℕ) (line : List ℕ) → IsRefusedTask files task line → IsBadInput files (best task looks) line
-  bad_task_of_trees : (task certificate line : List ℕ) → IsRefusedTask files task line → IsBadInput files (check_trees task certificate) line
-  bad_trees : (task certificate : List ℕ) (t : Problem) (line : List ℕ) → IsTaskFile files task t → AreRefusedTrees files certificate t line
-      → IsBadInput files (check_trees task certificate) line
+  bad_task_of_any : (task certificate line : List ℕ) → IsRefusedTask files task line → IsBadInput files (check_any task certificate) line
+  bad_any : (task certificate : List ℕ) (t : Problem) (line : List ℕ) → IsTaskFile files task t → IsRefusedAny files certificate t line
+      → IsBadInput files (check_any task certificate) line
 
 -- the reply to the arguments: an outcome and its text
 pub data IsReply (arguments : List (List ℕ)) (files : Files) : Outcome → List ℕ → Type 0 where
@@ -145,6 +100,30 @@ pub data IsReply (arguments : List (List ℕ)) (files : Files) : Outcome → Lis
   refused : (job : Job) (line : List ℕ) → IsCommand arguments job → IsBadInput files job line → IsReply arguments files BadInput line
   usage : AreInvalid arguments → IsReply arguments files Usage usage_text
 
+-- Hidden files ----------------------------------------------------------------------------------
+
+-- the answer to a job, or, where the files are hidden, to one that needs none
+abbrev pub IsAnswerAlone : Job → Outcome → List ℕ → Type 0
+IsAnswerAlone (generate number) outcome text = IsSummary number outcome text
+IsAnswerAlone other outcome text = Unit {0}
+
+abbrev pub IsAnswerOver : Option Files → Job → Outcome → List ℕ → Type 0
+IsAnswerOver exposed job outcome text = MatchOption exposed (IsAnswerAlone job outcome text) (λ files. IsAnswer files job outcome text)
+
+-- the line of the first file that is refused, or, where the files are hidden, a line about a job that needs some
+abbrev pub NeedsFiles : Job → Type 0
+NeedsFiles (generate number) = ⊥
+NeedsFiles other = Unit {0}
+
+abbrev pub IsBadInputOver : Option Files → Job → List ℕ → Type 0
+IsBadInputOver exposed job line = MatchOption exposed (NeedsFiles job) (λ files. IsBadInput files job line)
+
+-- the reply to the arguments, or, where the files are hidden, to those of a job that needs none
+abbrev pub IsReplyOver : List (List ℕ) → Option Files → Outcome → List ℕ → Type 0
+IsReplyOver arguments exposed outcome text =
+    MatchOption exposed ((number : ℕ) → IsCommand arguments (generate number) → IsSummary number outcome text)
+    (λ files. IsReply arguments files outcome text)
+
 -- Complete --------------------------------------------------------------------------------------
 
 -- the files of a job are there and right
@@ -152,7 +131,7 @@ abbrev pub HasInput : Files → Job → Type 0
 HasInput files (place task budget) = (t : Problem) × IsTaskFile files task t
 HasInput files (check task certificate) = (t : Problem) × (c : Certificate) × IsTaskFile files task t × IsCertificateFile files certificate t c
 HasInput files (best task looks) = (t : Problem) × IsTaskFile files task t
-HasInput files (check_trees task certificate) = (t : Problem) × (c : ListedTrees) × IsTaskFile files task t × IsTreeFile files certificate t c
+HasInput files (check_any task certificate) = (t : Problem) × (c : AnyListed) × IsTaskFile files task t × IsAnyFile files certificate t c
 HasInput files (generate number) = Unit {0}
 
 -- the arguments are a command whose files are there and right

@@ -1,5 +1,5 @@
 -- How a run ends, and what it leaves.
-use Rattle.std.specs.Prelude.{◌≡◌, ◌≢◌, ℕ, List, Option, Some, Result, Ok, Err, IfOk, IfSome}
+use Rattle.std.specs.Prelude.{◌≡◌, ◌≢◌, ℕ, List, Option, Some, Result, Ok, Err, IfOk}
 use Rattle.desk_base.specs.Faults.{Rose}
 use Rattle.load_io.specs.Shelf.{Files}
 use Rattle.load_io.specs.Sink.{Appends, AppendsPart}
@@ -9,7 +9,7 @@ use Rattle.plan_commands.specs.declared.ending.Stop.{Stop}
 use Rattle.plan_commands.specs.declared.ending.Stop.TheVariants.{ReadFault, WriteFault, NoMemory}
 use Rattle.plan_commands.specs.Arguments.{AreInvalid}
 use Rattle.plan_commands.specs.ReplyText.{usage_text}
-use Rattle.plan_commands.specs.Reply.{IsReply, IsAnswered, HaveInput, HaveBadInput}
+use Rattle.plan_commands.specs.Reply.{IsReplyOver, IsAnswered, HaveInput, HaveBadInput}
 
 -- the exit status
 abbrev pub exit_status : Result Outcome Stop → ℕ
@@ -33,10 +33,6 @@ pub record Outside : Type 0 where
 
 abbrev pub outside : Option Files → ℕ → Option (List ℕ) → ℕ → Outside
 outside files failed_reads output failed_writes = record { files = files; failed_reads = failed_reads; output = output; failed_writes = failed_writes }
-
--- the text is the reply, unless the files are hidden
-abbrev pub IsReplyOver : List (List ℕ) → Option Files → Outcome → List ℕ → Type 0
-IsReplyOver arguments exposed outcome text = IfSome exposed (λ files. IsReply arguments files outcome text)
 
 -- how a run with these arguments ends; only a failed read or write raises its count
 pub data Ends (arguments : List (List ℕ)) (before after : Outside) : Result Outcome Stop → Type 0 where

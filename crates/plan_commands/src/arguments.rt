@@ -10,7 +10,8 @@ use mass_units::{read_long_number, read_number};
 /// The budget of a search if the arguments name none.
 pub const USUAL_BUDGET: u32 = 20_000;
 
-const GREATEST_BUDGET: u32 = 50_000;
+/// The greatest budget of a search.
+pub const GREATEST_BUDGET: u32 = 50_000;
 
 /// How many choices a search by trees looks at if the arguments do not say it.
 const USUAL_LOOKS: u32 = 20_000;
@@ -26,10 +27,10 @@ pub enum Command<'a> {
     /// `check TASK CERTIFICATE`: whether the certificate in a file is good for the task in another.
     Check { task: &'a str, certificate: &'a str },
     /// `best TASK` or `best TASK LOOKS`: the best placement of the task in a file, by a search that looks at so many
-    /// choices at most.
+    /// choices at most, and by the best-first search where these do not decide it.
     Best { task: &'a str, looks: u32 },
-    /// `bestcheck TASK CERTIFICATE`: whether the certificate of trees in a file is good for the task in another.
-    CheckTrees { task: &'a str, certificate: &'a str },
+    /// `bestcheck TASK CERTIFICATE`: whether the certificate of either kind in a file is good for the task in another.
+    CheckAny { task: &'a str, certificate: &'a str },
     /// `gen NUMBER`: the best placement of the load that is made from the number.
     Generate { number: u32 },
 }
@@ -115,7 +116,7 @@ fn with_two_operands<'a>(name: &str, task: &'a str, other: &'a str) -> Option<Co
         });
     }
     if name == "bestcheck" {
-        return Some(Command::CheckTrees {
+        return Some(Command::CheckAny {
             task,
             certificate: other,
         });

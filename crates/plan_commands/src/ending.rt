@@ -44,7 +44,7 @@ pub enum Outcome {
     NothingFits,
     /// More prefixes are near than the budget.
     OverBudget,
-    /// So many looks do not decide which placement is the best.
+    /// So many looks do not decide which placement is the best, and more prefixes are near than the budget that comes of them.
     Undecided,
     /// The certificate is not good.
     Rejected,

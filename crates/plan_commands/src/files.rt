@@ -5,10 +5,13 @@ ghost use Rattle.desk_base.specs.Faults.{Rose};
 ghost use Rattle.load_io.specs.Shelf.{IsWhole, HasMoreThan};
 ghost use Rattle.plan_commands.specs.ReplyText.{longest_task, longest_certificate, long_text};
 ghost use Rattle.tree_certificate.specs.Listed.{listed_trees};
+ghost use Rattle.plan_commands.specs.NearReply.{IsCertificateIn, IsCertificateRefusal};
 ghost use Rattle.plan_commands.specs.TreeReply.{AreTreesIn, IsTreeRefusal};
-ghost use Rattle.plan_commands.specs.Reply.{IsTaskIn, IsRefusal, IsCertificateIn, IsCertificateRefusal, IsTaskFile, IsRefusedTask, IsCertificateFile, IsRefusedCertificate, IsTreeFile, AreRefusedTrees};
+ghost use Rattle.plan_commands.specs.AnyReply.{any_listed, IsAnyIn, IsAnyRefusal};
+ghost use Rattle.plan_commands.specs.Reply.{IsTaskIn, IsRefusal, IsTaskFile, IsRefusedTask, IsCertificateFile, IsRefusedCertificate, IsAnyFile, IsRefusedAny};
 ghost use Rattle.plan_commands.specs.Halts.{IfBadInput};
 
+use crate::any_certificate::{AnyCertificate, begins_with_cuts};
 use crate::ending::Halt;
 use crate::reply_text::{line_of_certificate_fault, line_of_fault, two_word_line};
 use certificate::{Certificate, read_certificate};
@@ -22,7 +25,7 @@ use tree_certificate::{TreeCertificate, read_trees};
 pub const LONGEST_TASK: usize = 1_048_576;
 
 /// The greatest length of a certificate's file, in bytes, whatever its evidence is.
-const LONGEST_CERTIFICATE: usize = 805_306_368;
+pub const LONGEST_CERTIFICATE: usize = 805_306_368;
 
 /// The refusal of a file that is too long.
 fn too_long(alloc: Global) -> Halt
@@ -97,6 +100,21 @@ fn trees_of(alloc: Global, task: &Task, bytes: &[u8]) -> Result<TreeCertificate,
     }
 }
 
+/// The certificate of the kind that begins first among the bytes of a file.
+fn any_of(alloc: Global, task: &Task, bytes: &[u8]) -> Result<AnyCertificate, Halt>
+    requires { length bytes.now ≤ longest_certificate }
+    ensures read { IfOk result (λ c. IsAnyIn task.now bytes.now (any_listed c)) }
+    ensures refused { IfErr result (λ halt. IfBadInput halt (IsAnyRefusal task.now bytes.now)) }
+    ensures unread { result ≢ Err Halt.ReadFault }
+{
+    if begins_with_cuts(bytes) {
+        let cuts = certificate_of(alloc, task, bytes)?;
+        return Ok(AnyCertificate::OfCuts(cuts));
+    }
+    let trees = trees_of(alloc, task, bytes)?;
+    Ok(AnyCertificate::OfTrees(trees))
+}
+
 /// The task in a file.
 pub fn task_from<F: Shelf>(alloc: Global, shelf: &mut F, name: &str) -> Result<Task, Halt>
     ensures read { IfOk result (λ task. IfSome (F.files shelf.old) (λ files. IsTaskFile files name.now task)) }
@@ -129,21 +147,21 @@ pub fn certificate_from<F: Shelf>(
     certificate_of(alloc, task, bytes.as_slice())
 }
 
-/// The certificate of trees in a file, for a task.
-pub fn trees_from<F: Shelf>(
+/// The certificate of either kind in a file, for a task.
+pub fn any_from<F: Shelf>(
     alloc: Global,
     shelf: &mut F,
     task: &Task,
     name: &str,
-) -> Result<TreeCertificate, Halt>
+) -> Result<AnyCertificate, Halt>
     ensures read { IfOk result
-        (λ c. IfSome (F.files shelf.old) (λ files. IsTreeFile files name.now task.now (listed_trees c))) }
+        (λ c. IfSome (F.files shelf.old) (λ files. IsAnyFile files name.now task.now (any_listed c))) }
     ensures refused { IfErr result (λ halt. IfBadInput halt
-        (λ line. IfSome (F.files shelf.old) (λ files. AreRefusedTrees files name.now task.now line))) }
+        (λ line. IfSome (F.files shelf.old) (λ files. IsRefusedAny files name.now task.now line))) }
     ensures counted { result ≡ Err Halt.ReadFault → Rose (F.faults shelf.old) (F.faults shelf.new) }
     ensures uncounted { result ≢ Err Halt.ReadFault → F.faults shelf.new ≡ F.faults shelf.old }
     ensures same { F.files shelf.new ≡ F.files shelf.old }
 {
     let bytes = bytes_from(alloc, shelf, name, LONGEST_CERTIFICATE)?;
-    trees_of(alloc, task, bytes.as_slice())
+    any_of(alloc, task, bytes.as_slice())
 }

@@ -1,88 +1,34 @@
 //! What the program does for each command.
 
-ghost use Rattle.std.specs.Prelude.{◌≡◌, ◌≢◌, ◌≤◌, ◌++◌, ℕ, List, All, Err, IfOk, IfErr, IfSome, OnOk, length, Some};
+ghost use Rattle.std.specs.Prelude.{◌≡◌, ◌≢◌, ◌≤◌, ◌++◌, ℕ, List, All, Err, IfOk, IfErr, OnOk, length, Some};
 ghost use Rattle.desk_base.specs.Faults.{Rose};
 ghost use Rattle.hold_parts.specs.declared.parts.Item.{Item};
 ghost use Rattle.certificate.specs.Evidence.{claimed};
 ghost use Rattle.generated_load.specs.Load.{generated_problem};
-ghost use Rattle.cert_checker.specs.Claims.{IsGoodFor};
-ghost use Rattle.placer.specs.Answers.{IfBest, IfCertified};
+ghost use Rattle.placer.specs.Answers.{IfBest};
 ghost use Rattle.plan_commands.specs.Commands.{job_of};
-ghost use Rattle.plan_commands.specs.Outcomes.{outcome_of, summary_outcome, IsSummaryText};
+ghost use Rattle.plan_commands.specs.Outcomes.{summary_outcome, IsSummaryText};
 ghost use Rattle.plan_commands.specs.Halts.{IfBadInput};
-ghost use Rattle.plan_commands.specs.Reply.{IsPlacing, IsJudgement, IsSummary, IsAnswer, IsAnswered, IsBadInput};
+ghost use Rattle.plan_commands.specs.Reply.{IsSummary, IsAnswerOver, IsAnswered, IsBadInputOver};
 ghost use Rattle.plan_commands.specs.ReplyText.{total_mass, load_lines, count_lines, plan_summary, none_summary, budget_summary};
 ghost use Rattle.text_lines.specs.Lines.{text_of};
 
 use crate::arguments::{Command, USUAL_BUDGET};
 use crate::ending::{Halt, Outcome, Reply};
-use crate::files::{certificate_from, task_from, trees_from};
-use crate::reply_text::{good_line, push_number_line, rejected_line};
-use crate::tree_jobs::{judgement_of_trees, placing_by_trees};
-use cert_checker::{NoPlan, Proven, check};
+use crate::files::{any_from, certificate_from, task_from};
+use crate::near_jobs::{has_good_evidence, judgement, placement};
+use crate::reply_text::push_number_line;
+use crate::tree_jobs::{judgement_of_any, placing_by_trees};
+use cert_checker::{NoPlan, Proven};
 use certificate::Certificate;
 use desk_base::NoMemory;
 use generated_load::generated_task;
 use hold_limits::{Item, Task};
 use load_io::Shelf;
-use placer::{Answer, place, write_answer};
+use placer::{Answer, Placing};
 use plan_text::push_balance;
 use std::alloc::Global;
 use telex::Builder;
-
-fn outcome_of(answer: &Answer) -> Outcome
-    ensures { result ≡ outcome_of answer.now }
-{
-    match answer {
-        Answer::Best(_) => Outcome::Done,
-        Answer::NoneFits(_) => Outcome::NothingFits,
-        Answer::Budget(_) => Outcome::OverBudget,
-    }
-}
-
-/// The certificate of an answer, if it has one, is good. The call does nothing: it is there for its contract.
-fn has_good_evidence(answer: &Answer)
-    ensures { IfCertified answer.now (λ it. IsGoodFor it.task it.certificate) }
-{
-    match answer {
-        Answer::Best(proven) => {
-            let _good = proven.certificate();
-        }
-        Answer::NoneFits(no_plan) => {
-            let _good = no_plan.certificate();
-        }
-        Answer::Budget(_) => {}
-    }
-}
-
-/// The best placement of a task.
-fn placing(alloc: Global, task: &Task, budget: u32) -> Result<Reply, NoMemory>
-    ensures { IfOk result (λ reply. IsPlacing task.now budget reply.outcome reply.text.items) }
-{
-    let answer = place(alloc, task, budget)?;
-    has_good_evidence(&answer);
-    Ok(Reply {
-        outcome: outcome_of(&answer),
-        text: write_answer(alloc, task, &answer)?,
-    })
-}
-
-/// Whether a certificate is good for a task.
-fn judgement(alloc: Global, task: &Task, certificate: &Certificate) -> Result<Reply, NoMemory>
-    ensures { IfOk result (λ reply. IsJudgement task.now certificate.now reply.outcome reply.text.items) }
-{
-    let _lawful = task.items();
-    match check(task, certificate) {
-        Ok(()) => Ok(Reply {
-            outcome: Outcome::Done,
-            text: good_line(alloc, &certificate.claim)?,
-        }),
-        Err(reason) => Ok(Reply {
-            outcome: Outcome::Rejected,
-            text: rejected_line(alloc, task, &reason)?,
-        }),
-    }
-}
 
 /// The mass of some containers together, in kilograms.
 fn total_mass(items: &[Item]) -> u64
@@ -187,11 +133,11 @@ fn summary_outcome(answer: &Answer) -> Outcome
 }
 
 /// The summary of the placement of the load that is made from a number.
-fn summary(alloc: Global, number: u32) -> Result<Reply, NoMemory>
+fn summary<P: Placing>(alloc: Global, number: u32, placing: &P) -> Result<Reply, NoMemory>
     ensures { IfOk result (λ reply. IsSummary number reply.outcome reply.text.items) }
 {
     let task = generated_task(alloc, number)?;
-    let answer = place(alloc, &task, USUAL_BUDGET)?;
+    let answer = placing.place(alloc, &task, USUAL_BUDGET)?;
     has_good_evidence(&answer);
     Ok(Reply {
         outcome: summary_outcome(&answer),
@@ -200,16 +146,17 @@ fn summary(alloc: Global, number: u32) -> Result<Reply, NoMemory>
 }
 
 /// The answer to a command. Its files are read in the order of the arguments.
-pub fn answer_to<F: Shelf>(
+pub fn answer_to<F: Shelf, P: Placing>(
     alloc: Global,
     command: Command<'_>,
     shelf: &mut F,
+    placing: &P,
 ) -> Result<Reply, Halt>
-    ensures answered { IfOk result (λ reply. IfSome (F.files shelf.old)
-        (λ files. IsAnswer files (job_of command.entry) reply.outcome reply.text.items)) }
+    ensures answered { IfOk result (λ reply.
+        IsAnswerOver (F.files shelf.old) (job_of command.entry) reply.outcome reply.text.items) }
     ensures answers { IfOk result (λ reply. IsAnswered reply.outcome) }
     ensures refused { IfErr result (λ halt. IfBadInput halt
-        (λ line. IfSome (F.files shelf.old) (λ files. IsBadInput files (job_of command.entry) line))) }
+        (IsBadInputOver (F.files shelf.old) (job_of command.entry))) }
     ensures counted { result ≡ Err Halt.ReadFault → Rose (F.faults shelf.old) (F.faults shelf.new) }
     ensures uncounted { result ≢ Err Halt.ReadFault → F.faults shelf.new ≡ F.faults shelf.old }
     ensures same { F.files shelf.new ≡ F.files shelf.old }
@@ -217,7 +164,7 @@ pub fn answer_to<F: Shelf>(
     match command {
         Command::Place { task, budget } => {
             let task = task_from(alloc, shelf, task)?;
-            Ok(placing(alloc, &task, budget)?)
+            Ok(placement(alloc, &task, budget, placing)?)
         }
         Command::Check { task, certificate } => {
             let task = task_from(alloc, shelf, task)?;
@@ -226,13 +173,13 @@ pub fn answer_to<F: Shelf>(
         }
         Command::Best { task, looks } => {
             let task = task_from(alloc, shelf, task)?;
-            Ok(placing_by_trees(alloc, &task, looks)?)
+            Ok(placing_by_trees(alloc, &task, looks, placing)?)
         }
-        Command::CheckTrees { task, certificate } => {
+        Command::CheckAny { task, certificate } => {
             let task = task_from(alloc, shelf, task)?;
-            let certificate = trees_from(alloc, shelf, &task, certificate)?;
-            Ok(judgement_of_trees(alloc, &task, &certificate)?)
+            let certificate = any_from(alloc, shelf, &task, certificate)?;
+            Ok(judgement_of_any(alloc, &task, &certificate)?)
         }
-        Command::Generate { number } => Ok(summary(alloc, number)?),
+        Command::Generate { number } => Ok(summary(alloc, number, placing)?),
     }
 }

@@ -1,13 +1,16 @@
 //! The commands about one task: from their arguments to the reply that is printed and the exit status.
 #![tactic(auto)]
 
+mod any_certificate;
 mod arguments;
 mod ending;
 mod files;
 mod first_words;
 mod jobs;
+mod near_jobs;
 mod printing;
 mod reply_text;
+mod spelled;
 mod tree_jobs;
 
 pub use arguments::{are_command, are_plain};

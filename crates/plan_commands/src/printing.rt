@@ -4,17 +4,24 @@ ghost use Rattle.std.specs.Prelude.{◌≡◌, ◌≢◌, Err, IfOk};
 ghost use Rattle.desk_base.specs.Faults.{Rose};
 ghost use Rattle.plan_commands.specs.Arguments.{arguments_of, AreInvalid};
 ghost use Rattle.plan_commands.specs.ReplyText.{usage_text};
-ghost use Rattle.plan_commands.specs.Run.{outside, exit_status, IsReplyOver, IsRun, ExitsWith};
+ghost use Rattle.plan_commands.specs.Reply.{IsReplyOver};
+ghost use Rattle.plan_commands.specs.Run.{outside, exit_status, IsRun, ExitsWith};
 
 use crate::arguments::command_of;
 use crate::ending::{Halt, Outcome, Reply, Stop};
 use crate::jobs::answer_to;
 use crate::reply_text::word_line;
 use load_io::{Shelf, Sink, write_all};
+use placer::Placing;
 use std::alloc::Global;
 
 /// The reply to the arguments. Its files are read at most once each, in the order of the arguments.
-fn reply_to<F: Shelf>(alloc: Global, arguments: &[String], shelf: &mut F) -> Result<Reply, Stop>
+fn reply_to<F: Shelf, P: Placing>(
+    alloc: Global,
+    arguments: &[String],
+    shelf: &mut F,
+    placing: &P,
+) -> Result<Reply, Stop>
     ensures replied { IfOk result (λ reply. IsReplyOver (arguments_of arguments.now)
         (F.files shelf.old) reply.outcome reply.text.items) }
     ensures usage { IfOk result (λ reply. reply.outcome ≡ Outcome.Usage
@@ -33,7 +40,7 @@ fn reply_to<F: Shelf>(alloc: Global, arguments: &[String], shelf: &mut F) -> Res
             text: word_line(alloc, b"USAGE")?,
         });
     };
-    match answer_to(alloc, command, shelf) {
+    match answer_to(alloc, command, shelf, placing) {
         Ok(reply) => Ok(reply),
         Err(Halt::BadInput(text)) => Ok(Reply {
             outcome: Outcome::BadInput,
@@ -45,18 +52,19 @@ fn reply_to<F: Shelf>(alloc: Global, arguments: &[String], shelf: &mut F) -> Res
 }
 
 /// Prints the reply to the arguments.
-fn print_reply<F: Shelf, O: Sink>(
+fn print_reply<F: Shelf, O: Sink, P: Placing>(
     alloc: Global,
     arguments: &[String],
     shelf: &mut F,
     out: &mut O,
+    placing: &P,
 ) -> Result<Outcome, Stop>
     ensures { IsRun (arguments_of arguments.now)
         (outside (F.files shelf.old) (F.faults shelf.old) (O.content out.old) (O.faults out.old))
         (outside (F.files shelf.new) (F.faults shelf.new) (O.content out.new) (O.faults out.new))
         result }
 {
-    let reply = reply_to(alloc, arguments, shelf)?;
+    let reply = reply_to(alloc, arguments, shelf, placing)?;
     match write_all(out, reply.text.as_slice()) {
         Ok(()) => Ok(reply.outcome),
         Err(_) => Err(Stop::WriteFault),
@@ -82,16 +90,17 @@ pub fn exit_status(ending: Result<Outcome, Stop>) -> u8
 }
 
 /// Prints the reply to the arguments and returns the exit status. Nothing is printed except on `out`.
-pub fn print<F: Shelf, O: Sink>(
+pub fn print<F: Shelf, O: Sink, P: Placing>(
     alloc: Global,
     arguments: &[String],
     shelf: &mut F,
     out: &mut O,
+    placing: &P,
 ) -> u8
     ensures { ExitsWith (arguments_of arguments.now)
         (outside (F.files shelf.old) (F.faults shelf.old) (O.content out.old) (O.faults out.old))
         (outside (F.files shelf.new) (F.faults shelf.new) (O.content out.new) (O.faults out.new))
         result }
 {
-    exit_status(print_reply(alloc, arguments, shelf, out))
+    exit_status(print_reply(alloc, arguments, shelf, out, placing))
 }

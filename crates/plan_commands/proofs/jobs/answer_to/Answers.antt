@@ -1,7 +1,7 @@
 use Rattle.plan_commands.proofs.FileLemmas.{IfErr-from_residual}
-use Rattle.tree_certificate.specs.Listed.{listed_trees}
-use Rattle.plan_commands.proofs.AnswerLemmas.{bad-task, bad-checked_task, bad-certificate, bad-best_task, bad-task_of_trees, bad-trees, placed-answer, judged-answer, placed-by_trees-answer, trees-judged-answer, summed-answer}
-use Rattle.plan_commands.proofs.ReplyLemmas.{placing-answered, judgement-answered, tree-placing-answered, tree-judgement-answered, summary-answered}
+use Rattle.plan_commands.specs.AnyReply.{any_listed}
+use Rattle.plan_commands.proofs.AnswerLemmas.{bad-task, bad-checked_task, bad-certificate, bad-best_task, bad-task_of_any, bad-any, placed-answer, judged-answer, placed-by_trees-answer, any-judged-answer, summed-answer}
+use Rattle.plan_commands.proofs.ReplyLemmas.{placing-answered, judgement-answered, tree-placing-answered, any-judgement-answered, summary-answered}
 use Rattle.plan_commands.proofs.jobs.answer_to.Goals as goal
 
 pub returns-in_err-task-in-Place-clause-refused : goal.returns-in_err-task-in-Place-clause-refused
@@ -26,10 +26,10 @@ returns-in_err-certificate-in-Check-clause-refused g c =
     (IfErr-from_residual c.from_residual-in_err-certificate-in-Check.result halt _ c.from_residual-in_err-certificate-in-Check.ensures.1
     (bad-certificate halt (g.F.Shelf.files c.args.shelf.now) c.in-Check.task.now c.in-Check.certificate.now c.in_ok-task-in-Check.task c.in_ok-task-in-Check.ensures.read refused))
 
-pub returns-in_ok-placing-in-Place-clause-answered : goal.returns-in_ok-placing-in-Place-clause-answered
-returns-in_ok-placing-in-Place-clause-answered g c =
+pub returns-in_ok-placement-in-Place-clause-answered : goal.returns-in_ok-placement-in-Place-clause-answered
+returns-in_ok-placement-in-Place-clause-answered g c =
     rw c.in-Place.is
-    (placed-answer (g.F.Shelf.files c.args.shelf.now) c.in-Place.task.now c.in-Place.budget c.in_ok-task-in-Place.task _ _ c.in_ok-task-in-Place.ensures.read c.in_ok-placing-in-Place.ensures)
+    (placed-answer (g.F.Shelf.files c.args.shelf.now) c.in-Place.task.now c.in-Place.budget c.in_ok-task-in-Place.task _ _ c.in_ok-task-in-Place.ensures.read c.in_ok-placement-in-Place.ensures)
 
 pub returns-in_ok-judgement-in-Check-clause-answered : goal.returns-in_ok-judgement-in-Check-clause-answered
 returns-in_ok-judgement-in-Check-clause-answered g c =
@@ -42,8 +42,8 @@ pub returns-in_ok-summary-in-Generate-clause-answered : goal.returns-in_ok-summa
 returns-in_ok-summary-in-Generate-clause-answered g c =
     rw c.in-Generate.is (summed-answer (g.F.Shelf.files c.args.shelf.now) c.in-Generate.number _ _ c.in_ok-summary-in-Generate.ensures)
 
-pub returns-in_ok-placing-in-Place-clause-answers : goal.returns-in_ok-placing-in-Place-clause-answers
-returns-in_ok-placing-in-Place-clause-answers g c = placing-answered _ _ _ _ c.in_ok-placing-in-Place.ensures
+pub returns-in_ok-placement-in-Place-clause-answers : goal.returns-in_ok-placement-in-Place-clause-answers
+returns-in_ok-placement-in-Place-clause-answers g c = placing-answered _ _ _ _ c.in_ok-placement-in-Place.ensures
 
 pub returns-in_ok-judgement-in-Check-clause-answers : goal.returns-in_ok-judgement-in-Check-clause-answers
 returns-in_ok-judgement-in-Check-clause-answers g c = judgement-answered _ _ _ _ c.in_ok-judgement-in-Check.ensures
@@ -51,7 +51,7 @@ returns-in_ok-judgement-in-Check-clause-answers g c = judgement-answered _ _ _ _
 pub returns-in_ok-summary-in-Generate-clause-answers : goal.returns-in_ok-summary-in-Generate-clause-answers
 returns-in_ok-summary-in-Generate-clause-answers g c = summary-answered _ _ _ c.in_ok-summary-in-Generate.ensures
 
--- Commands for trees ----------------------------------------------------------------------------
+-- Commands for trees and certificates of either kind --------------------------------------------
 
 pub returns-in_err-task-in-Best-clause-refused : goal.returns-in_err-task-in-Best-clause-refused
 returns-in_err-task-in-Best-clause-refused g c =
@@ -60,35 +60,35 @@ returns-in_err-task-in-Best-clause-refused g c =
     (IfErr-from_residual c.from_residual-in_err-task-in-Best.result halt _ c.from_residual-in_err-task-in-Best.ensures.1
     (bad-best_task halt (g.F.Shelf.files c.args.shelf.now) c.in-Best.task.now c.in-Best.looks c.in_err-task-in-Best.ensures.refused))
 
-pub returns-in_err-task-in-CheckTrees-clause-refused : goal.returns-in_err-task-in-CheckTrees-clause-refused
-returns-in_err-task-in-CheckTrees-clause-refused g c =
-    let halt = c.in_err-task-in-CheckTrees.field-0.0 in
-    rw c.in-CheckTrees.is
-    (IfErr-from_residual c.from_residual-in_err-task-in-CheckTrees.result halt _ c.from_residual-in_err-task-in-CheckTrees.ensures.1
-    (bad-task_of_trees halt (g.F.Shelf.files c.args.shelf.now) c.in-CheckTrees.task.now c.in-CheckTrees.certificate.now c.in_err-task-in-CheckTrees.ensures.refused))
+pub returns-in_err-task-in-CheckAny-clause-refused : goal.returns-in_err-task-in-CheckAny-clause-refused
+returns-in_err-task-in-CheckAny-clause-refused g c =
+    let halt = c.in_err-task-in-CheckAny.field-0.0 in
+    rw c.in-CheckAny.is
+    (IfErr-from_residual c.from_residual-in_err-task-in-CheckAny.result halt _ c.from_residual-in_err-task-in-CheckAny.ensures.1
+    (bad-task_of_any halt (g.F.Shelf.files c.args.shelf.now) c.in-CheckAny.task.now c.in-CheckAny.certificate.now c.in_err-task-in-CheckAny.ensures.refused))
 
-pub returns-in_err-certificate-in-CheckTrees-clause-refused : goal.returns-in_err-certificate-in-CheckTrees-clause-refused
-returns-in_err-certificate-in-CheckTrees-clause-refused g c =
-    let halt = c.in_err-certificate-in-CheckTrees.field-0.0 in
-    let refused = rw c.in_ok-task-in-CheckTrees.ensures.same at c.in_err-certificate-in-CheckTrees.ensures.refused in
-    rw c.in-CheckTrees.is
-    (IfErr-from_residual c.from_residual-in_err-certificate-in-CheckTrees.result halt _ c.from_residual-in_err-certificate-in-CheckTrees.ensures.1
-    (bad-trees halt (g.F.Shelf.files c.args.shelf.now) c.in-CheckTrees.task.now c.in-CheckTrees.certificate.now c.in_ok-task-in-CheckTrees.task c.in_ok-task-in-CheckTrees.ensures.read refused))
+pub returns-in_err-certificate-in-CheckAny-clause-refused : goal.returns-in_err-certificate-in-CheckAny-clause-refused
+returns-in_err-certificate-in-CheckAny-clause-refused g c =
+    let halt = c.in_err-certificate-in-CheckAny.field-0.0 in
+    let refused = rw c.in_ok-task-in-CheckAny.ensures.same at c.in_err-certificate-in-CheckAny.ensures.refused in
+    rw c.in-CheckAny.is
+    (IfErr-from_residual c.from_residual-in_err-certificate-in-CheckAny.result halt _ c.from_residual-in_err-certificate-in-CheckAny.ensures.1
+    (bad-any halt (g.F.Shelf.files c.args.shelf.now) c.in-CheckAny.task.now c.in-CheckAny.certificate.now c.in_ok-task-in-CheckAny.task c.in_ok-task-in-CheckAny.ensures.read refused))
 
 pub returns-in_ok-placing_by_trees-in-Best-clause-answered : goal.returns-in_ok-placing_by_trees-in-Best-clause-answered
 returns-in_ok-placing_by_trees-in-Best-clause-answered g c =
     rw c.in-Best.is
     (placed-by_trees-answer (g.F.Shelf.files c.args.shelf.now) c.in-Best.task.now c.in-Best.looks c.in_ok-task-in-Best.task _ _ c.in_ok-task-in-Best.ensures.read c.in_ok-placing_by_trees-in-Best.ensures)
 
-pub returns-in_ok-judgement_of_trees-in-CheckTrees-clause-answered : goal.returns-in_ok-judgement_of_trees-in-CheckTrees-clause-answered
-returns-in_ok-judgement_of_trees-in-CheckTrees-clause-answered g c =
-    let evidence = rw c.in_ok-task-in-CheckTrees.ensures.same at c.in_ok-certificate-in-CheckTrees.ensures.read in
-    rw c.in-CheckTrees.is
-    (trees-judged-answer (g.F.Shelf.files c.args.shelf.now) c.in-CheckTrees.task.now c.in-CheckTrees.certificate.now c.in_ok-task-in-CheckTrees.task (listed_trees c.in_ok-certificate-in-CheckTrees.certificate) _ _
-    c.in_ok-task-in-CheckTrees.ensures.read evidence c.in_ok-judgement_of_trees-in-CheckTrees.ensures)
+pub returns-in_ok-judgement_of_any-in-CheckAny-clause-answered : goal.returns-in_ok-judgement_of_any-in-CheckAny-clause-answered
+returns-in_ok-judgement_of_any-in-CheckAny-clause-answered g c =
+    let evidence = rw c.in_ok-task-in-CheckAny.ensures.same at c.in_ok-certificate-in-CheckAny.ensures.read in
+    rw c.in-CheckAny.is
+    (any-judged-answer (g.F.Shelf.files c.args.shelf.now) c.in-CheckAny.task.now c.in-CheckAny.certificate.now c.in_ok-task-in-CheckAny.task (any_listed c.in_ok-certificate-in-CheckAny.certificate) _ _
+    c.in_ok-task-in-CheckAny.ensures.read evidence c.in_ok-judgement_of_any-in-CheckAny.ensures)
 
 pub returns-in_ok-placing_by_trees-in-Best-clause-answers : goal.returns-in_ok-placing_by_trees-in-Best-clause-answers
 returns-in_ok-placing_by_trees-in-Best-clause-answers g c = tree-placing-answered _ _ _ _ c.in_ok-placing_by_trees-in-Best.ensures
 
-pub returns-in_ok-judgement_of_trees-in-CheckTrees-clause-answers : goal.returns-in_ok-judgement_of_trees-in-CheckTrees-clause-answers
-returns-in_ok-judgement_of_trees-in-CheckTrees-clause-answers g c = tree-judgement-answered _ _ _ _ c.in_ok-judgement_of_trees-in-CheckTrees.ensures
+pub returns-in_ok-judgement_of_any-in-CheckAny-clause-answers : goal.returns-in_ok-judgement_of_any-in-CheckAny-clause-answers
+returns-in_ok-judgement_of_any-in-CheckAny-clause-answers g c = any-judgement-answered _ _ _ _ c.in_ok-judgement_of_any-in-CheckAny.ensures

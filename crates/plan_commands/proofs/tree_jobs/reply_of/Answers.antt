@@ -1,4 +1,4 @@
-use Rattle.plan_commands.proofs.TreeJobLemmas.{best-replies, none-replies, undecided-replies}
+use Rattle.plan_commands.proofs.TreeJobLemmas.{best-replies, none-replies}
 use Rattle.plan_commands.proofs.tree_jobs.reply_of.Goals as goal
 
 pub returns-in-Best : goal.returns-in-Best
@@ -6,7 +6,3 @@ returns-in-Best c = rw c.in-Best.is (best-replies c.in-Best.proven c.proven_plan
 
 pub returns-in-NoneFits : goal.returns-in-NoneFits
 returns-in-NoneFits c = rw c.in-NoneFits.is (none-replies c.in-NoneFits.no_plan c.proven_none.result c.proven_none.ensures)
-
-pub returns-in_ok-undecided_line-in-Undecided : goal.returns-in_ok-undecided_line-in-Undecided
-returns-in_ok-undecided_line-in-Undecided c =
-    rw c.in-Undecided.is (undecided-replies c.in-Undecided.looks _ c.in_ok-undecided_line-in-Undecided.ensures)

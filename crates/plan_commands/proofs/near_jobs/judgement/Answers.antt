@@ -1,9 +1,9 @@
 use Rattle.std.proofs.Common.{refl, subst, sym}
 use Rattle.plan_commands.specs.declared.ending.Outcome.TheVariants.{Done, Rejected}
-use Rattle.plan_commands.specs.Reply.{IsJudgement}
-use Rattle.plan_commands.specs.Reply.IsJudgement.{good, rejected}
+use Rattle.plan_commands.specs.NearReply.{IsJudgement}
+use Rattle.plan_commands.specs.NearReply.IsJudgement.{good, rejected}
 use Rattle.plan_commands.proofs.JobLemmas.{good-true}
-use Rattle.plan_commands.proofs.jobs.judgement.Goals as goal
+use Rattle.plan_commands.proofs.near_jobs.judgement.Goals as goal
 
 pub returns-in_ok-good_line-in-Ok : goal.returns-in_ok-good_line-in-Ok
 returns-in_ok-good_line-in-Ok c =
