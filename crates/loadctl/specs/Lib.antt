@@ -2,3 +2,4 @@ pub mod Desk
 pub mod Serve
 pub mod Needs
 pub mod Execute
+pub mod Stores

@@ -11,6 +11,7 @@ mod objects;
 mod program;
 mod ran;
 mod serve;
+mod stores;
 mod system;
 mod words;
 
