@@ -9,6 +9,8 @@ mod examples;
 #[cfg(test)]
 mod flags;
 #[cfg(test)]
+mod full_room;
+#[cfg(test)]
 mod other_doors;
 #[cfg(test)]
 mod planning;

@@ -152,9 +152,6 @@ pub fn shelf(alloc: Global) -> Result<MemoryShelf, NoMemory> {
     let mut files = Vec::new(alloc);
     let aircraft = Vec::from_slice(alloc, DAIAB.as_bytes())?;
     files.push((String::from_str(alloc, "a")?, aircraft))?;
-    files.push((
-        String::from_str(alloc, "b")?,
-        Vec::from_slice(alloc, b"version")?,
-    ))?;
+    files.push((String::from_str(alloc, "b")?, Vec::from_slice(alloc, b"[")?))?;
     Ok(MemoryShelf::new(files, Vec::new(alloc)))
 }

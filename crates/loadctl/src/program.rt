@@ -96,3 +96,6 @@ pub fn run<
         }
     }
 }
+
+#[cfg(test)]
+mod tests;

@@ -86,3 +86,6 @@ pub fn needs(alloc: Global, words: &Vec<String>) -> Result<Needs, WordFault>
     }
     Ok(needs_of(words.as_slice()))
 }
+
+#[cfg(test)]
+mod tests;

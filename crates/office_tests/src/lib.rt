@@ -3,4 +3,6 @@
 #![tactic(auto)]
 
 #[cfg(test)]
+mod many_rows;
+#[cfg(test)]
 mod offices;

@@ -11,13 +11,14 @@ use desk_base::NoMemory;
 use editions::{Entry, FigurePart, Office, Refusal, Reply, Request, StartFault, What};
 use flight_history::{new_flight, standing_after};
 use flight_state::{Day, FlightKey, FlightName, FlightState, Leg, Lmc, Station};
-use hold_limits::{Path, Task};
+use hold_limits::{Name, Path, Task};
 use keeper::{Bytes, FailingKeeper, Keeper, KeptRow, MemoryKeeper};
+use last_minute::LmcFault;
 use mass_units::{Kg, Ticks};
 use std::alloc::{AllocError, Global};
 use std::str;
 use std::test::Fail;
-use trim::{Dry, Fuel, Regulated};
+use trim::{Dry, Fuel, Regulated, Rules};
 
 /// `examples/daiab.toml`.
 const DAIAB: &str = r#"registration = "DAIAB"
@@ -110,7 +111,7 @@ fn aircraft(alloc: Global) -> Result<Aircraft, NoMemory> {
     read_aircraft(alloc, DAIAB.as_bytes()).map_err(|_| NoMemory)
 }
 
-fn fleet(alloc: Global) -> Result<Vec<Aircraft>, NoMemory>
+pub fn fleet(alloc: Global) -> Result<Vec<Aircraft>, NoMemory>
     ensures { IfOk result (λ fleet. AreApart fleet.items) }
 {
     let mut fleet = Vec::new(alloc);
@@ -152,6 +153,15 @@ fn part_of(word: &[u8]) -> Option<FigurePart>
             take_off: Kg(73_000),
             landing: Kg(66_000),
         })),
+        // 20 kilograms more than the landing mass, and one less.
+        b"tight" => Some(FigurePart::Limits(Regulated {
+            take_off: Kg(73_000),
+            landing: Kg(45_020),
+        })),
+        b"over" => Some(FigurePart::Limits(Regulated {
+            take_off: Kg(73_000),
+            landing: Kg(44_999),
+        })),
         _ => None,
     }
 }
@@ -166,6 +176,27 @@ fn one_adult() -> Lmc {
     }
 }
 
+/// The mass of a word.
+fn kilograms_in(word: &[u8]) -> Option<i32> {
+    match word {
+        b"1 kg" => Some(1),
+        b"20 kg" => Some(20),
+        b"21 kg" => Some(21),
+        b"500 kg" => Some(500),
+        b"501 kg" => Some(501),
+        _ => None,
+    }
+}
+
+/// So much more in the bulk position.
+fn more_bulk(mass: i32) -> Result<Lmc, NoMemory> {
+    Ok(Lmc::Loose {
+        position: Name::read(b"51").ok_or(NoMemory)?,
+        mass,
+        pieces: 0,
+    })
+}
+
 /// The request that a word of a talk and an edition stand for. Another word asks for the row.
 fn request_of(word: &[u8], edition: u32) -> Result<Request, NoMemory>
     ensures { IfOk result IsWithinLimits }
@@ -173,6 +204,10 @@ fn request_of(word: &[u8], edition: u32) -> Result<Request, NoMemory>
     let key = key()?;
     if let Some(part) = part_of(word) {
         return Ok(Request::Set { key, edition, part });
+    }
+    if let Some(mass) = kilograms_in(word) {
+        let lmc = more_bulk(mass)?;
+        return Ok(Request::Late { key, edition, lmc });
     }
     Ok(match word {
         b"new" => Request::NewFlight {
@@ -203,12 +238,25 @@ fn plan_of(alloc: Global, task: Task) -> Result<Proven, NoMemory> {
     Proven::new(task, certificate).map_err(|_| NoMemory)
 }
 
+/// The rule that is broken, where one is.
+fn broken_in(rules: &Rules) -> &'static str {
+    match rules.as_slice() {
+        [rule] => rule.text(),
+        _ => "broken",
+    }
+}
+
 fn refused_by(refusal: &Refusal) -> (&'static str, Option<u32>) {
     match refusal {
         Refusal::Exists => ("exists", None),
         Refusal::Gone => ("gone", None),
         Refusal::Stale(edition) => ("stale", Some(*edition)),
         Refusal::Ahead(edition) => ("ahead", Some(*edition)),
+        Refusal::NoPlanYet => ("no plan", None),
+        Refusal::Broken(rules) => (broken_in(rules), None),
+        Refusal::Late(LmcFault::TooMany) => ("too many", None),
+        Refusal::Late(LmcFault::MassOver(mass)) => ("too heavy", Some(mass.0)),
+        Refusal::Late(LmcFault::Breaks(rules)) => (broken_in(rules), None),
         Refusal::OtherTask => ("other task", None),
         Refusal::KeeperFault => ("keeper fault", None),
         _ => ("refused", None),
@@ -358,6 +406,61 @@ install|2|stale 4
 install|4|other task
 release|5|ahead 4";
 
+/// The sheet of a released flight is asked for again; a plan does not outlast its figures.
+const AGAIN: &[u8] = b"new|1|opened
+fuel|1|edition 2
+take|2|task
+install|2|edition 2
+release|2|sheet 2
+release|2|sheet 2
+fuel|2|edition 3
+release|3|no plan";
+
+/// A late change beyond the tolerance of 500 kilograms, and one that meets it.
+const TOLERATED: &[u8] = b"new|1|opened
+fuel|1|edition 2
+take|2|task
+install|2|edition 2
+release|2|sheet 2
+501 kg|2|too heavy 501
+500 kg|2|edition 3";
+
+/// Eleven late changes.
+const ELEVEN: &[u8] = b"new|1|opened
+fuel|1|edition 2
+take|2|task
+install|2|edition 2
+release|2|sheet 2
+1 kg|2|edition 3
+1 kg|3|edition 4
+1 kg|4|edition 5
+1 kg|5|edition 6
+1 kg|6|edition 7
+1 kg|7|edition 8
+1 kg|8|edition 9
+1 kg|9|edition 10
+1 kg|10|edition 11
+1 kg|11|edition 12
+1 kg|12|too many";
+
+/// The greatest landing mass is 20 kilograms more than the flight's.
+const TIGHT: &[u8] = b"new|1|opened
+fuel|1|edition 2
+tight|2|edition 3
+take|3|task
+install|3|edition 3
+release|3|sheet 3
+21 kg|3|LANDING
+20 kg|3|edition 4";
+
+/// It is one kilogram less.
+const OVER: &[u8] = b"new|1|opened
+fuel|1|edition 2
+over|2|edition 3
+take|3|task
+install|3|edition 3
+release|3|LANDING";
+
 /// The first line of a talk with a new office whose reply is another one.
 fn first_wrong_of(alloc: Global, talk: &[u8]) -> Result<Option<usize>, Fail> {
     let mut keeper = MemoryKeeper::new(alloc);
@@ -368,6 +471,28 @@ fn first_wrong_of(alloc: Global, talk: &[u8]) -> Result<Option<usize>, Fail> {
 #[test]
 fn a_flight_is_released_and_departs(rt: HostRuntime) -> Result<(), Fail> {
     assert_eq!(rt; first_wrong_of(rt.alloc(), DEPARTED)?, None);
+    Ok(())
+}
+
+#[test]
+fn a_release_is_repeated_until_the_figures_change(rt: HostRuntime) -> Result<(), Fail> {
+    assert_eq!(rt; first_wrong_of(rt.alloc(), AGAIN)?, None);
+    Ok(())
+}
+
+#[test]
+fn late_changes_are_few_and_within_the_tolerance(rt: HostRuntime) -> Result<(), Fail> {
+    for talk in [TOLERATED, ELEVEN] {
+        assert_eq!(rt; first_wrong_of(rt.alloc(), talk)?, None);
+    }
+    Ok(())
+}
+
+#[test]
+fn the_landing_mass_is_kept(rt: HostRuntime) -> Result<(), Fail> {
+    for talk in [TIGHT, OVER] {
+        assert_eq!(rt; first_wrong_of(rt.alloc(), talk)?, None);
+    }
     Ok(())
 }
 

@@ -115,7 +115,8 @@ fn a_connection_ends_with_its_status(rt: HostRuntime) -> Result<(), Fail> {
 #[test]
 fn a_fleet_is_refused_by_its_first_file(rt: HostRuntime) -> Result<(), Fail> {
     let alloc = rt.alloc();
-    let rows: [(&[&str], u8, &str); 5] = [
+    let rows: [(&[&str], u8, &str); 6] = [
+        (&["desk", ":memory:", "b"], 3, "AIRCRAFT 1 FAULT 1\n"),
         (&["desk", ":memory:", "a", "b"], 3, "AIRCRAFT 2 FAULT 1\n"),
         (&["desk", ":memory:", "a", "a"], 3, "AIRCRAFT 2 TWICE\n"),
         (&["desk", ":memory:", "c"], 6, ""),

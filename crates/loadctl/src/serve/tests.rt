@@ -27,9 +27,9 @@ const NO_FLIGHT: &str = "\
     {\"error\":\"no flight\"}";
 
 /// The port of the desk that the morning comes to.
-const FIRST: u16 = 7_001;
+const LAST: u16 = 7_002;
 
-/// Makes doors in memory. The first one has a link with a morning, and each other one has two that ask for a flight that there is
+/// Makes doors in memory. The last one has a link with a morning, and each other one has two that ask for a flight that there is
 /// not. Calls are counted from 1, so none has the number 0.
 #[derive(Clone, Copy)]
 struct Morning {
@@ -65,7 +65,7 @@ impl Objects for Morning {
 
     fn door(&self, alloc: Global, port: u16) -> Result<MemoryDoor, NoMemory> {
         let mut links = Vec::new(alloc);
-        if port == FIRST {
+        if port == LAST {
             links.push(link(alloc, MORNING, 0)?)?;
             return MemoryDoor::new(alloc, links, Vec::new(alloc));
         }
@@ -129,7 +129,7 @@ fn each_door_is_served_by_its_desk(rt: HostRuntime) -> Result<(), Fail> {
         fail_door: 0,
         fail_read: 0,
     };
-    let answers = [MORNING_ANSWERS, NO_FLIGHT, NO_FLIGHT];
+    let answers = [NO_FLIGHT, NO_FLIGHT, MORNING_ANSWERS];
     check(&rt, rt.alloc(), &morning, 0, &answers)
 }
 
@@ -139,7 +139,7 @@ fn a_link_that_fails_ends_alone(rt: HostRuntime) -> Result<(), Fail> {
         fail_door: 0,
         fail_read: 1,
     };
-    check(&rt, rt.alloc(), &morning, 0, &[MORNING_ANSWERS, NO_FLIGHT])
+    check(&rt, rt.alloc(), &morning, 0, &[NO_FLIGHT, MORNING_ANSWERS])
 }
 
 #[test]
