@@ -36,6 +36,7 @@ impl<
 > Objects for System<Rt>
 where
     Rt::Rows: Send,
+    Rt::Hold: Send,
 {
     type Keeper = RowStore<SqliteKeeper<Rt>>;
 
@@ -89,6 +90,7 @@ pub fn execute_on<
 ) -> u8
 where
     Rt::Rows: Send,
+    Rt::Hold: Send,
     ensures runs { IfOk args (λ all. Executes ⟦<System<Rt> as Objects>⟧.keeps ⟦<System<Rt> as Objects>⟧.stands_at
         ⟦<TcpDoor<Rt> as Door>⟧.coming ⟦<TcpDoor<Rt> as Door>⟧.handed ⟦<TcpDoor<Rt> as Door>⟧.faults
         ⟦<TcpLink<TcpStream> as Link>⟧.left ⟦<TcpLink<TcpStream> as Link>⟧.content

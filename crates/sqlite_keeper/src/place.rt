@@ -1,6 +1,6 @@
 //! Which file a store is, whatever its name.
 
-use std::fs::Metadata;
+use std::fs::{File, Metadata};
 use std::os::unix::fs::MetadataExt;
 use std::{fs, io};
 
@@ -37,6 +37,11 @@ fn id_of(found: &Metadata) -> FileId {
         device: found.dev(),
         inode: found.ino(),
     }
+}
+
+/// The file that is open here.
+pub(crate) fn file_of(open: &File) -> io::Result<FileId> {
+    Ok(id_of(&open.metadata()?))
 }
 
 /// The file that is at the path now.

@@ -11,14 +11,18 @@ use keeper::{KeepFault, Keeper, KeptRow};
 use std::alloc::Global;
 use std::marker::Model;
 
-/// Keeps rows in the file of a path. Each call opens the file, and lets it go at its end. The first one makes it if there is
-/// none, and no other does; the file that was opened first has to be at the path from then on. Its tables are hidden. It counts
-/// each failure other than being out of memory, up to the last value of the counter.
+/// Keeps rows in the file of a path. Each call takes the file, and lets it go at its end, so that others read and write it
+/// between two calls; what others wrote is read again. The first call makes the file if there is none, and no other does; the
+/// file that was opened first has to be at the path from then on. Its tables are hidden. It counts each failure other than
+/// being out of memory, up to the last value of the counter. Keepers of one file take turns, also those of several programs; but within
+/// one program no two of them may be called at once, since one lets go of the locks that the other has.
 #[derive(Drop)]
 pub struct SqliteKeeper<Rt: StoreRuntime + Drop> {
     rt: Rt,
     path: String,
     wanted: Wanted,
+    /// What a call left open that went well.
+    open: Option<(Rt::Rows, Rt::Hold)>,
     faults: u64,
 }
 
@@ -40,35 +44,63 @@ impl<Rt: StoreRuntime + Drop> SqliteKeeper<Rt> {
             rt,
             path,
             wanted: Wanted::MadeIfMissing,
+            open: None,
             faults: 0,
         }
     }
 
-    /// Opens the file for one call, with its table.
-    fn opened(&mut self, alloc: Global) -> Result<Rt::Rows, KeepFault>
+    /// Opens the file, with its table.
+    fn opened(&mut self, alloc: Global) -> Result<(Rt::Rows, Rt::Hold), KeepFault>
         ensures same { self.new ≡ self.old }
     {
         let wanted = self.wanted;
         if let Wanted::MadeIfMissing = wanted {
             self.wanted = Wanted::Any;
         }
-        let (mut rows, file) = self.rt.open_store(self.path.as_str(), wanted)?;
+        let (mut rows, hold, file) = self.rt.open_store(self.path.as_str(), wanted)?;
         self.wanted = Wanted::Only(file);
         rows.prepare(alloc)?;
-        Ok(rows)
+        Ok((rows, hold))
+    }
+
+    /// Takes the file for one call: what is open, if it is as it was let go, or else the file opened anew.
+    fn taken(&mut self, alloc: Global) -> Result<(Rt::Rows, Rt::Hold), KeepFault>
+        ensures same { self.new ≡ self.old }
+    {
+        if let Some((rows, hold)) = self.open.take() {
+            if self.rt.take_again(self.path.as_str(), &hold)? {
+                return Ok((rows, hold));
+            }
+        }
+        self.opened(alloc)
+    }
+
+    /// Lets the file go behind a call that went well.
+    fn let_go(&mut self, rows: Rt::Rows, mut hold: Rt::Hold)
+        ensures same { self.new ≡ self.old }
+    {
+        if self.rt.let_go(&mut hold) {
+            self.open = Some((rows, hold));
+        }
     }
 
     fn loaded(&mut self, alloc: Global) -> Result<Vec<KeptRow>, KeepFault>
         ensures rising { IfOk result (λ rows. AreInKeyOrder rows.items) }
         ensures same { self.new ≡ self.old }
     {
-        self.opened(alloc)?.load(alloc)
+        let (mut rows, hold) = self.taken(alloc)?;
+        let loaded = rows.load(alloc)?;
+        self.let_go(rows, hold);
+        Ok(loaded)
     }
 
     fn committed(&mut self, alloc: Global, row: &KeptRow) -> Result<(), KeepFault>
         ensures same { self.new ≡ self.old }
     {
-        self.opened(alloc)?.commit(alloc, row)
+        let (mut rows, hold) = self.taken(alloc)?;
+        rows.commit(alloc, row)?;
+        self.let_go(rows, hold);
+        Ok(())
     }
 
     /// Counts a failure other than being out of memory.

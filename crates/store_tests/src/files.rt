@@ -1,6 +1,7 @@
 // The keeper over files of the system.
 use crate::rows::{are, row};
 use keeper::{KeepFault, Keeper};
+use sqlite::Connection;
 use sqlite_keeper::SqliteKeeper;
 use std::alloc::Global;
 use std::test::Fail;
@@ -81,6 +82,71 @@ fn another_keeper_loads_what_was_committed(rt: HostRuntime) -> Result<(), Fail> 
     let are_all_there = has(alloc, &mut second, wanted);
     drop(second);
     assert!(rt; is_empty && are_there && are_all_there);
+    remove(&rt, path.as_str())
+}
+
+/// Two keepers take turns at one file, and each sees what the other one did. Between two calls neither keeps the file from the
+/// other, though each leaves it open.
+#[test]
+fn two_keepers_take_turns(rt: HostRuntime) -> Result<(), Fail> {
+    let alloc = rt.alloc();
+    let path = path_of(&rt, "turns")?;
+    let mut first = keeper_at(rt, path.as_str())?;
+    let mut second = keeper_at(rt, path.as_str())?;
+    let mut are_seen = true;
+    for turn in 0..10u8 {
+        first.commit(alloc, &row(alloc, b"XX1-12", &[turn])?)?;
+        are_seen = are_seen && has(alloc, &mut first, &[(b"XX1-12", &[turn])]);
+        second.commit(alloc, &row(alloc, b"XX1-12", &[100 + turn])?)?;
+        are_seen = are_seen && has(alloc, &mut second, &[(b"XX1-12", &[100 + turn])]);
+        are_seen = are_seen && has(alloc, &mut first, &[(b"XX1-12", &[100 + turn])]);
+    }
+    drop(first);
+    drop(second);
+    assert!(rt; are_seen);
+    remove(&rt, path.as_str())
+}
+
+/// Writes the bytes of a row as another program would, and copies the log into the file.
+fn rewrite(rt: &HostRuntime, path: &str, update: &str) -> Result<(), Fail> {
+    let mut conn = Connection::open(rt, path)?;
+    conn.execute(update, &[])?;
+    conn.close()?;
+    Ok(())
+}
+
+/// What another program writes is read again, also where it begins the log anew or removes it.
+#[test]
+fn what_another_program_writes_is_read(rt: HostRuntime) -> Result<(), Fail> {
+    let alloc = rt.alloc();
+    let path = path_of(&rt, "other-program")?;
+    let log = format!(in alloc; "{}-wal", path.as_str())?;
+    let mut keeper = keeper_at(rt, path.as_str())?;
+    keeper.commit(alloc, &row(alloc, b"XX2-12", b"one")?)?;
+    rewrite(&rt, path.as_str(), "UPDATE flight SET bytes = X'74776F'")?;
+    let is_read = has(alloc, &mut keeper, &[(b"XX2-12", b"two")]);
+    keeper.commit(alloc, &row(alloc, b"XX3-12", b"three")?)?;
+    rewrite(
+        &rt,
+        path.as_str(),
+        "DELETE FROM flight WHERE key = 'XX2-12'",
+    )?;
+    fs::remove_file(&rt, log.as_str())?;
+    keeper.commit(alloc, &row(alloc, b"XX4-12", b"four")?)?;
+    let is_kept = has(
+        alloc,
+        &mut keeper,
+        &[(b"XX3-12", b"three"), (b"XX4-12", b"four")],
+    );
+    drop(keeper);
+    let mut next = keeper_at(rt, path.as_str())?;
+    let is_there = has(
+        alloc,
+        &mut next,
+        &[(b"XX3-12", b"three"), (b"XX4-12", b"four")],
+    );
+    drop(next);
+    assert!(rt; is_read && is_kept && is_there);
     remove(&rt, path.as_str())
 }
 

@@ -50,6 +50,7 @@ fn executed<
 >(rt: &Rt, alloc: Global, args: io::Result<Args>) -> Result<String, NoMemory>
 where
     Rt::Rows: Send,
+    Rt::Hold: Send,
 {
     let mut files = Vec::new(alloc);
     let task = Vec::from_slice(alloc, TASK.as_bytes())?;
