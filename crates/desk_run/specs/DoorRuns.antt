@@ -1,5 +1,5 @@
 -- what a run of several desks leaves
-use Rattle.std.specs.Prelude.{ℕ, ◌≤◌, List, Option, IfSome}
+use Rattle.std.specs.Prelude.{◌≡◌, ℕ, ◌≤◌, List, Option, IfSome}
 use Rattle.load_io.specs.Shelf.{Files}
 use Rattle.flight_state.specs.declared.state.FlightState.{FlightState}
 use Rattle.flight_history.specs.declared.entry.Entry.{Entry}
@@ -13,6 +13,10 @@ use Rattle.desk_serve.specs.declared.ending.DoorsEnd.{DoorsEnd}
 -- an office reserves so many entries for doors
 abbrev pub reserved_for_doors : ℕ
 reserved_for_doors = 1000000
+
+-- tables that are exposed before and after have the same rows
+abbrev pub HaveSameRows : Option Tables → Option Tables → Type 0
+HaveSameRows before after = IfSome before (λ held. IfSome after (λ now. (key : List ℕ) → now key ≡ held key))
 
 module _ {D L : Type 0} (coming_of handed_of : D → Option (List L)) (faults_of : D → ℕ)
     (input_of output_of : L → Option (List ℕ)) (reads_of writes_of : L → ℕ) where

@@ -3,7 +3,7 @@
 ghost use Rattle.std.specs.Prelude.{◌≡◌, ◌≢◌, ◌<◌, ◌≤◌, ◌^◌, [], Err, vec_len, IfOk, IfErr, OnErr};
 ghost use Rattle.desk_base.specs.Faults.{Rose};
 ghost use Rattle.desk_fleet.specs.Fleet.{names_of};
-ghost use Rattle.desk_run.specs.DoorRuns.{IsRunOfDoors};
+ghost use Rattle.desk_run.specs.DoorRuns.{IsRunOfDoors, HaveSameRows};
 ghost use Rattle.desk_run.specs.Faults.{IsNotOpened};
 ghost use Rattle.desk_serve.specs.Service.{IsOneHistory};
 ghost use Rattle.editions.specs.Books.{HasTables};
@@ -56,6 +56,7 @@ fn serve_all<Rt: Threads + Wait + Sync, K: Keeper + Send + Drop, D: Door + Send,
     ensures memory { IfErr result.ending (λ fault. fault ≡ DeskFault.NoMemory) }
     ensures empty { OnErr result.ending ((result.opening.items ≡ []) × (result.history.items ≡ [])) }
     ensures unserved { OnErr result.ending ((result.doors.items ≡ doors.items) × (K.faults result.keeper ≡ K.faults keeper)) }
+    ensures kept { OnErr result.ending (HasTables (K.tables result.keeper) office) }
 {
     let DoorsRun {
         ending,
@@ -111,6 +112,7 @@ pub fn run_doors<
     ensures uncounted { result.ending ≢ Err DeskFault.Unread → F.faults shelf.new ≡ F.faults shelf.old }
     ensures same_files { F.files shelf.new ≡ F.files shelf.old }
     ensures same_tables { IfErr result.ending (λ fault. fault ≢ DeskFault.NoMemory → K.tables result.keeper ≡ K.tables keeper) }
+    ensures same_rows { OnErr result.ending (HaveSameRows (K.tables keeper) (K.tables result.keeper)) }
     ensures cause { result.ending ≡ Err DeskFault.Keeper → Rose (K.faults keeper) (K.faults result.keeper) }
     ensures same_count { IfErr result.ending (λ fault. fault ≢ DeskFault.Keeper → K.faults result.keeper ≡ K.faults keeper) }
     ensures never_falls { K.faults keeper ≤ K.faults result.keeper }

@@ -188,6 +188,7 @@ pub fn serve_doors<
         doors.items result.doors.items ending result.opening.items result.history.items) }
     ensures unserved { OnErr result.ending ((result.doors.items ≡ doors.items) × (result.history.items ≡ [])
         × (K.faults result.keeper ≡ K.faults keeper)) }
+    ensures kept { OnErr result.ending (HasTables (K.tables result.keeper) office) }
 {
     let capacity = office.spare();
     let bench = Bench::new(office, keeper);

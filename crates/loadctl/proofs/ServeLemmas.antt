@@ -18,7 +18,7 @@ use Rattle.desk_serve.specs.declared.ending.DoorsEnd.{DoorsEnd}
 use Rattle.desk_serve.specs.declared.ending.DoorsEnd.TheVariants.{Closed, Failed}
 use Rattle.desk_run.specs.Faults.{IsNotOpened}
 use Rattle.desk_run.specs.Runs.{line}
-use Rattle.desk_run.specs.DoorRuns.{IsRunOfDoors}
+use Rattle.desk_run.specs.DoorRuns.{IsRunOfDoors, HaveSameRows}
 use Rattle.desk_run.specs.declared.fault.DeskFault.{DeskFault}
 use Rattle.desk_run.specs.declared.fault.DeskFault.TheVariants.{Unread, Keeper, NoMemory}
 use Rattle.desk_run.proofs.Causes.{refused-no_fleet, refused-reported}
@@ -143,15 +143,16 @@ module _ {D L : Type 0} (coming_of handed_of : D → Option (List L)) (faults_of
       → (ending ≢ Err Unread → failed' ≡ failed)
       → (ending ≡ Err Keeper → Rose rows rows')
       → IfErr ending (λ fault. fault ≢ NoMemory → tables' ≡ tables)
+      → OnErr ending (HaveSameRows tables tables')
       → IfErr ending (λ fault. fault ≢ Keeper → rows' ≡ rows)
       → IfOk ending (λ end. status ≡ status_of_doors end)
       → OnOk ending ((output' ≡ output) × (writes' ≡ writes))
       → IfErr ending (λ fault. IsReported fault output output' writes writes' status)
       → EndsServe coming_of handed_of faults_of input_of output_of reads_of writes_of names
       (surroundings files failed tables rows (line left output reads writes)) (surroundings files' failed' tables' rows' (line left output' reads writes')) ds ds' opening history status
-  serve-ends (Ok end) run cause empty still counted uncounted fails held kept is same reported =
+  serve-ends (Ok end) run cause empty still counted uncounted fails held alike kept is same reported =
       rw (is, same.0, same.1) (served end (λ file refused. refused-no_fleet files names run.opened.fleet file refused run.of_files) run (uncounted (λ e. cc)) refl)
-  serve-ends (Err fault) run cause empty still counted uncounted fails held kept is same reported =
+  serve-ends (Err fault) run cause empty still counted uncounted fails held alike kept is same reported =
       unopened fault record {
         cause = cause;
         refused = λ file refused. refused-reported files names tables file fault refused cause;
@@ -160,7 +161,7 @@ module _ {D L : Type 0} (coming_of handed_of : D → Option (List L)) (faults_of
         failed = λ e. fails (ap (λ f. Err f) e);
         kept = kept;
         unheard = record { input = refl; reads = refl };
-      } reported held still empty.0 empty.1
+      } reported held alike still empty.0 empty.1
 
 module _ {D L : Type 0} (coming_of handed_of : D → Option (List L)) (faults_of : D → ℕ) (input_of output_of : L → Option (List ℕ)) (reads_of writes_of : L → ℕ)
     (names : List (List ℕ)) (before after : Surroundings) (ds ds' : List D) where
@@ -177,7 +178,7 @@ module _ {D L : Type 0} (coming_of handed_of : D → Option (List L)) (faults_of
     served = λ can none. doors-end ending run.served.ended;
     refused = λ file refused none. absurd (unrefused file refused);
   }
-  serve-complete opening history status (unopened fault is reported held still opens says) = record {
+  serve-complete opening history status (unopened fault is reported held alike still opens says) = record {
     served = λ can none. inr (inr (unopened-ends names before after none fault status can is reported));
     refused = λ file refused none. refused-ends names before after none fault status file (is.refused file refused) is reported;
   }

@@ -8,7 +8,7 @@ use Rattle.desk_serve.specs.Doors.{EndAs}
 use Rattle.desk_serve.specs.declared.ending.DoorsEnd.{DoorsEnd}
 use Rattle.desk_serve.specs.declared.ending.DoorsEnd.TheVariants.{Closed, Failed}
 use Rattle.desk_run.specs.Faults.{HaveRefusedFile}
-use Rattle.desk_run.specs.DoorRuns.{IsRunOfDoors}
+use Rattle.desk_run.specs.DoorRuns.{IsRunOfDoors, HaveSameRows}
 use Rattle.desk_run.specs.Servable.{CanOpen}
 use Rattle.desk_run.specs.declared.fault.DeskFault.{DeskFault}
 use Rattle.desk_run.specs.declared.fault.DeskFault.TheVariants.{NoMemory}
@@ -72,7 +72,7 @@ module _ {D L : Type 0} (coming_of handed_of : D → Option (List L)) (faults_of
     -- it was not opened, as the output says, and no door was asked; the rows are as they were handed in, unless memory ran out
     unopened : {status : ℕ} (fault : DeskFault) → IsUnopened names before after fault
         → IsReported fault before.line.output after.line.output before.line.failed_writes after.line.failed_writes status
-        → (fault ≢ NoMemory → after.tables ≡ before.tables) → ds' ≡ ds → opening ≡ [] → history ≡ [] → EndsServe names before after ds ds' opening history status
+        → (fault ≢ NoMemory → after.tables ≡ before.tables) → HaveSameRows before.tables after.tables → ds' ≡ ds → opening ≡ [] → history ≡ [] → EndsServe names before after ds ds' opening history status
 
   -- a run with these arguments and these doors, which exits with this status and leaves this opening and this history
   pub data RunsAtDoors (arguments : List (List ℕ)) (before after : Surroundings) (ds ds' : List D) (status : ℕ)
