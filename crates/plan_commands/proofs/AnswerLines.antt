@@ -58,7 +58,7 @@ places-told hold (x ∷ items) (q ∷ path) ids names =
     (places-told hold items path (All-tail HasPlainId x items ids) (All-tail (HasPlainName hold) q path names))
 
 -- what holds of each container holds of each in branch order
-ordered-all : (P : Item → Type 0) (items : List Item) → All P items → All P (ordered items)
+pub ordered-all : (P : Item → Type 0) (items : List Item) → All P items → All P (ordered items)
 ordered-all P items all =
     All-map P (λ (e : Offered). e.1) (branch_order items)
     (All-weaker (λ (e : Offered). slice_get items e.0 ≡ Some e.1) (λ (e : Offered). P e.1)

@@ -3,6 +3,7 @@ pub mod FileLemmas
 pub mod AnyLemmas
 pub mod AnswerLines
 pub mod CutCounts
+pub mod ShortText
 pub mod ReadBack
 pub mod SpelledLemmas
 pub mod JobLemmas

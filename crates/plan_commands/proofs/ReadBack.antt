@@ -33,6 +33,7 @@ use Rattle.plan_commands.specs.TreeReply.{AreReadBack}
 use Rattle.plan_commands.proofs.AnswerLines.{IsTold, told-earlier, claim_lines, claim_text-lines, claim-told}
 use Rattle.plan_commands.proofs.AnyLemmas.{BeginsWithCuts-after, BeginsWithCuts-trees}
 use Rattle.plan_commands.proofs.CutCounts.{near-few_cuts, near-few_expanded}
+use Rattle.plan_commands.proofs.ShortText.{IsFew, evidence-short}
 
 -- Kinds -----------------------------------------------------------------------------------------
 
@@ -68,16 +69,20 @@ cuts-read_back t budget c lawful named near good enough low =
     let told = claim-told t (claimed c.claim) named (claimed_sound t (claimed c.claim) good.admissible) in
     let number = near-few_expanded t budget c near enough in
     let same : evidence_text t c ≡ text_of lines ++ certificate_text ps c = ap (λ text. text ++ certificate_text ps c) (claim_text-lines t (claimed c.claim)) in
+    let path : IfSome (claimed c.claim) IsFew = IfSome_then (claimed c.claim) good.admissible (λ path is. let short = is.sound.short in omega (arith, short, bounds.items)) in
+    let cuts : All IsFew c.cuts = All-weaker (IsViable t) IsFew (λ cut is. let short = is.sound.short in omega (arith, short, bounds.items)) c.cuts good.viable in
+    let expanded : c.expanded ≤ 50000 = omega (arith, number, low) in
+    let few : length c.cuts ≤ 3200000 = omega (arith, number, low, near-few_cuts t c lawful near) in
     record {
-      spelled = subst (λ text. Spells ps text c) (sym same)
-          (written_spells ps differ c
-          (IfSome_then (claimed c.claim) good.admissible (λ path is. IsSound-within t path is.sound))
-          (All-weaker (IsViable t) (All (λ q. q < length ps)) (λ cut is. IsSound-within t cut is.sound) c.cuts good.viable)
-          (IfSome_then (claimed c.claim) good.admissible (λ path is. let short = is.sound.short in omega (arith, short, bounds.items)))
-          (All-weaker (IsViable t) (λ cut. length cut ≤ 60) (λ cut is. let short = is.sound.short in omega (arith, short, bounds.items)) c.cuts good.viable)
-          (omega (arith, number, low))
-          (omega (arith, number, low, near-few_cuts t c lawful near))
-          (certificate_text ps c) refl lines (earlier-cuts lines told));
+      spelled = record {
+        short = evidence-short t c lawful named good.admissible path cuts expanded few;
+        spelled = subst (λ text. Spells ps text c) (sym same)
+            (written_spells ps differ c
+            (IfSome_then (claimed c.claim) good.admissible (λ path is. IsSound-within t path is.sound))
+            (All-weaker (IsViable t) (All (λ q. q < length ps)) (λ cut is. IsSound-within t cut is.sound) c.cuts good.viable)
+            path cuts expanded few
+            (certificate_text ps c) refl lines (earlier-cuts lines told));
+      };
       kind = record {
         before = lines;
         rest = text_of (evidence_lines ps c);

@@ -39,9 +39,9 @@ pub record IsEvidence (t : Problem) (budget : ℕ) (c : Certificate) : Type 0 wh
   pub good : IsGoodFor t c
   pub enough : AreAtMost (IsNear t) budget
 
--- what is printed with the certificate is its text, and begins with none of trees
+-- what is printed with the certificate fits a file, is its text, and begins with none of trees
 pub record IsReadBack (t : Problem) (c : Certificate) : Type 0 where
-  pub spelled : Spells t.hold.positions (evidence_text t c) c
+  pub spelled : IsCertificateIn t (evidence_text t c) c
   pub kind : BeginsWithCuts (evidence_text t c)
 
 -- the placement of a task with a budget: an outcome and its text. A budget over the greatest one may come to a certificate that no
