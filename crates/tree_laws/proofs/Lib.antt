@@ -1,0 +1,3 @@
+mod RefutationLemmas
+mod OneRefutation
+mod GreatestLemmas
