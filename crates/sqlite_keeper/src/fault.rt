@@ -15,3 +15,30 @@ pub fn fault_of(error: Error) -> KeepFault
         _ => KeepFault::Failed,
     }
 }
+
+/// Why a row was not committed.
+#[derive(Clone, Copy, Debug, PartialEq, Eq)]
+pub enum CommitFault {
+    /// The disk is full. What is open is as it was, and may be used again.
+    DiskFull,
+    /// Any other reason.
+    Other(KeepFault),
+}
+
+impl CommitFault {
+    pub(crate) fn of(error: Error) -> CommitFault {
+        match error {
+            Error::SqliteFailure(ErrorCode::DiskFull) => CommitFault::DiskFull,
+            other => CommitFault::Other(fault_of(other)),
+        }
+    }
+}
+
+impl From<CommitFault> for KeepFault {
+    fn from(fault: CommitFault) -> KeepFault {
+        match fault {
+            CommitFault::DiskFull => KeepFault::Failed,
+            CommitFault::Other(fault) => fault,
+        }
+    }
+}

@@ -13,6 +13,7 @@ mod rows;
 mod runtime;
 mod store;
 
+pub use fault::CommitFault;
 pub use hold::Hold;
 pub use place::{FileId, Wanted};
 pub use rows::{commit_row, load_rows, prepare_rows};

@@ -6,7 +6,7 @@ ghost use Rattle.sqlite.specs.State.{Survives, CommitsBy};
 ghost use Rattle.keeper.specs.Tables.{AreInKeyOrder, IsBefore};
 ghost use Rattle.sqlite_keeper.specs.Table.{create_text, upsert_text, stored, columns, Makes, ShowAll, ComesLast};
 
-use crate::fault::fault_of;
+use crate::fault::{CommitFault, fault_of};
 use keeper::{Bytes, KeepFault, KeptRow};
 use sqlite::{Alter, Connection, Row, params};
 use std::alloc::Global;
@@ -38,17 +38,17 @@ pub fn commit_row<S: Alter>(
     _alloc: Global,
     conn: &mut Connection<S>,
     row: &KeptRow,
-) -> Result<(), KeepFault>
+) -> Result<(), CommitFault>
     ensures made { OnOk result (Makes S.Store upsert_text (stored row.now) conn.old conn.new) }
     ensures stopped { Survives (state S.Store conn.old) (state S.Store conn.new)
         (CommitsBy upsert_text (stored row.now) (state S.Store conn.old)) }
 {
     let Ok(key) = str::from_utf8(row.key.as_slice()) else {
-        return Err(KeepFault::Failed);
+        return Err(CommitFault::Other(KeepFault::Failed));
     };
     match conn.execute(UPSERT, params![key, row.bytes.as_slice()]) {
         Ok(_) => Ok(()),
-        Err(error) => Err(fault_of(error)),
+        Err(error) => Err(CommitFault::of(error)),
     }
 }
 

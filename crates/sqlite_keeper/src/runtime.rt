@@ -3,7 +3,7 @@
 ghost use Rattle.std.specs.Prelude.{IfOk};
 ghost use Rattle.keeper.specs.Tables.{AreInKeyOrder};
 
-use crate::fault::fault_of;
+use crate::fault::{CommitFault, fault_of};
 use crate::hold::Hold;
 use crate::place::{FileId, Wanted, file_at, may_be_opened};
 use crate::rows::{commit_row, load_rows, prepare_rows};
@@ -29,7 +29,7 @@ pub trait OpenRows {
         ensures rising { IfOk result (λ rows. AreInKeyOrder rows.items) };
 
     /// Adds the row, or replaces the one under its key.
-    fn commit(&mut self, alloc: Global, row: &KeptRow) -> Result<(), KeepFault>;
+    fn commit(&mut self, alloc: Global, row: &KeptRow) -> Result<(), CommitFault>;
 }
 
 impl OpenRows for Connection<FileStore<File>> {
@@ -41,7 +41,7 @@ impl OpenRows for Connection<FileStore<File>> {
         load_rows(alloc, self)
     }
 
-    fn commit(&mut self, alloc: Global, row: &KeptRow) -> Result<(), KeepFault> {
+    fn commit(&mut self, alloc: Global, row: &KeptRow) -> Result<(), CommitFault> {
         commit_row(alloc, self, row)
     }
 }

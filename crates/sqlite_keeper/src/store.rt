@@ -5,6 +5,7 @@ ghost use Rattle.desk_base.specs.Faults.{Rose};
 ghost use Rattle.keeper.specs.Tables.{AreInKeyOrder};
 ghost use Rattle.sqlite_keeper.specs.Path.{keeper_at};
 
+use crate::fault::CommitFault;
 use crate::place::Wanted;
 use crate::runtime::{OpenRows, StoreRuntime};
 use keeper::{KeepFault, Keeper, KeptRow};
@@ -21,7 +22,7 @@ pub struct SqliteKeeper<Rt: StoreRuntime + Drop> {
     rt: Rt,
     path: String,
     wanted: Wanted,
-    /// What a call left open that went well.
+    /// What the last call left open.
     open: Option<(Rt::Rows, Rt::Hold)>,
     faults: u64,
 }
@@ -75,7 +76,7 @@ impl<Rt: StoreRuntime + Drop> SqliteKeeper<Rt> {
         self.opened(alloc)
     }
 
-    /// Lets the file go behind a call that went well.
+    /// Lets the file go behind a call that leaves it as it should be.
     fn let_go(&mut self, rows: Rt::Rows, mut hold: Rt::Hold)
         ensures same { self.new ≡ self.old }
     {
@@ -98,9 +99,11 @@ impl<Rt: StoreRuntime + Drop> SqliteKeeper<Rt> {
         ensures same { self.new ≡ self.old }
     {
         let (mut rows, hold) = self.taken(alloc)?;
-        rows.commit(alloc, row)?;
-        self.let_go(rows, hold);
-        Ok(())
+        let done = rows.commit(alloc, row);
+        if let Ok(()) | Err(CommitFault::DiskFull) = done {
+            self.let_go(rows, hold);
+        }
+        Ok(done?)
     }
 
     /// Counts a failure other than being out of memory.

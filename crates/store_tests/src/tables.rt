@@ -16,7 +16,7 @@ pub fn commit<S: Alter>(
     conn: &mut Connection<S>,
     row: &KeptRow,
 ) -> Result<(), KeepFault> {
-    commit_row(alloc, conn, row)
+    Ok(commit_row(alloc, conn, row)?)
 }
 
 pub fn load<S: Alter>(alloc: Global, conn: &mut Connection<S>) -> Result<Vec<KeptRow>, KeepFault> {
