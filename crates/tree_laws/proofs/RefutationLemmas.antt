@@ -3,6 +3,7 @@ use Rattle.std.proofs.Common.{◌≡◌, ⊎_elim, ℕ, ◌<◌, ℤ, true, fals
 use Rattle.std.proofs.lemmas.Bool.{cases_Bool, false≢true}
 use Rattle.std.proofs.lemmas.Int.{ints}
 use Rattle.std.proofs.lemmas.List.{append_assoc, append-nil}
+use Rattle.std.proofs.lemmas.List.Elements.{All-weaker}
 use Rattle.std.proofs.lemmas.Option.{slice_get_within, slice_get_cases, get_or_from_slice_get}
 use Rattle.std.specs.Prelude.{◌↔◌, ◌<ℤ◌, ◌≤ℤ◌, int_lt, All, IsTrue, IsSomeAnd, slice_get}
 use Rattle.std.specs.List.{AllZip}
@@ -12,12 +13,13 @@ use Rattle.price_trees.specs.Prices.{Choice, Prices, AreOf}
 use Rattle.price_trees.specs.Narrowing.{Ticks, trimmed, cut}
 use Rattle.price_trees.specs.Trees.{Refuted}
 use Rattle.price_trees.specs.Trees as rule
+use Rattle.tree_certificate.specs.Listed.{ListedTrees}
 use Rattle.tree_certificate.specs.declared.parts.Operation.{Operation}
 use Rattle.tree_certificate.specs.declared.parts.Operation.TheVariants as operation
 use Rattle.tree_checker.specs.TreeReading.{IsOpenAs, Holds, is_beyond, left_after, left_by_prices, Outcome, Left, Reading, Done, Closed, Missing, Wrong, Right}
-use Rattle.tree_checker.specs.GoodTrees.{Tree, TreeHolds}
+use Rattle.tree_checker.specs.GoodTrees.{Tree, TreeHolds, trees, prices_in, IsGoodTrees}
 use Rattle.hold_choices.proofs.NarrowedLemmas.{narrowed-refuted}
-use Rattle.tree_laws.specs.Refutations.{Refutation, NoPosition, Leaf, Residue, Beyond, Narrow, Split, OfListed, IsBeyond, Refutes, written, HasRefutation, NoTick, By}
+use Rattle.tree_laws.specs.Refutations.{Refutation, NoPosition, Leaf, Residue, Beyond, Narrow, Split, OfListed, IsBeyond, Refutes, written, HasRefutation, NoTick, By, IsGoodByTrees}
 
 -- Prices ----------------------------------------------------------------------------------------
 
@@ -212,6 +214,29 @@ by-holds t prices tree (By some refutation refutes is) =
 
 pub holds-iff : (t : Problem) (prices : List Prices) (tree : Tree) → TreeHolds t prices tree ↔ HasRefutation t prices tree
 holds-iff t prices tree = (holds-by t prices tree, by-holds t prices tree)
+
+-- Certificates ----------------------------------------------------------------------------------
+
+good-by_trees : (t : Problem) (c : ListedTrees) → IsGoodTrees t c → IsGoodByTrees t c
+good-by_trees t c good = record {
+  admissible = good.admissible;
+  cliques = good.cliques;
+  priced = good.priced;
+  refuted = All-weaker (TreeHolds t (prices_in t c)) (HasRefutation t (prices_in t c)) (holds-by t (prices_in t c)) (trees t c) good.refuted;
+  siblings = good.siblings;
+}
+
+by_trees-good : (t : Problem) (c : ListedTrees) → IsGoodByTrees t c → IsGoodTrees t c
+by_trees-good t c good = record {
+  admissible = good.admissible;
+  cliques = good.cliques;
+  priced = good.priced;
+  refuted = All-weaker (HasRefutation t (prices_in t c)) (TreeHolds t (prices_in t c)) (by-holds t (prices_in t c)) (trees t c) good.refuted;
+  siblings = good.siblings;
+}
+
+pub good-iff : (t : Problem) (c : ListedTrees) → IsGoodTrees t c ↔ IsGoodByTrees t c
+good-iff t c = (good-by_trees t c, by_trees-good t c)
 
 -- The rules of trees ----------------------------------------------------------------------------
 

@@ -3,17 +3,21 @@
 -- A refutation of a choice is a tree of reasons why no regular placement among it has its hold index among the ticks.
 -- Whether it refutes a choice is said of the tree itself, from its root down: no operation is read, and no choice waits
 -- for its turn.
-use Rattle.std.specs.Prelude.{◌≡◌, ℕ, ◌<ℤ◌, ◌≤ℤ◌, not, List, [], ◌∷◌, ◌++◌, slice_get, IsSomeAnd}
+use Rattle.std.specs.Prelude.{◌≡◌, ℕ, ◌<ℤ◌, ◌≤ℤ◌, not, List, [], ◌∷◌, ◌++◌, length, map, slice_get, All, IfSome, IsSomeAnd}
 use Rattle.hold_limits.specs.Problem.{Problem}
+use Rattle.hold_limits.specs.Placement.{IsAdmissible}
 use Rattle.position_set.specs.declared.set.PositionSet.{PositionSet}
 use Rattle.position_set.specs.Sets.{has}
 use Rattle.price_trees.specs.Prices.{Choice, Prices, value}
 use Rattle.price_trees.specs.Narrowing.{Ticks, goal, trimmed, cut}
 use Rattle.price_trees.specs.Trees.{IsMissed}
+use Rattle.certificate.specs.Evidence.{claimed}
+use Rattle.tree_certificate.specs.Listed.{ListedTrees}
 use Rattle.tree_certificate.specs.declared.parts.Operation.{Operation}
 use Rattle.tree_certificate.specs.declared.parts.Operation.TheVariants as operation
+use Rattle.choice_prices.specs.Listing.{IsClique, ArePriced}
 use Rattle.tree_checker.specs.TreeReading.{IsOpenAs, IsClosed}
-use Rattle.tree_checker.specs.GoodTrees.{Tree}
+use Rattle.tree_checker.specs.GoodTrees.{Tree, neighbours, AreNeeded, neighbour_of, trees, prices_in, path_in}
 
 -- Trees -----------------------------------------------------------------------------------------
 
@@ -78,3 +82,18 @@ pub data HasRefutation (t : Problem) (prices : List Prices) (tree : Tree) : Type
   By : tree.ticks.low ≤ℤ tree.ticks.high → (refutation : Refutation)
       → Refutes t tree.ticks prices refutation tree.choice → tree.operations ≡ written refutation
       → HasRefutation t prices tree
+
+-- Certificates ----------------------------------------------------------------------------------
+
+-- what makes a certificate good, where its trees hold by their refutations and not by the walk
+pub record IsGoodByTrees (t : Problem) (c : ListedTrees) : Type 0 where
+  -- the claimed path is admissible
+  pub admissible : IfSome (claimed c.claim) (IsAdmissible t)
+  -- the positions of each clique exclude each other
+  pub cliques : All (IsClique t) c.cliques
+  -- each price is within its bounds, and of something that there is
+  pub priced : All (ArePriced t.hold (length c.cliques)) c.prices
+  -- each tree has a refutation
+  pub refuted : All (HasRefutation t (prices_in t c)) (trees t c)
+  -- the siblings are the smaller neighbours that need a tree
+  pub siblings : AreNeeded t (path_in c) (neighbours t (path_in c)) (map neighbour_of c.siblings)

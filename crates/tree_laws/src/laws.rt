@@ -6,13 +6,15 @@ ghost use Rattle.price_trees.specs.Prices.{Choice, Prices, AreOf};
 ghost use Rattle.price_trees.specs.Narrowing.{Ticks, HasEmpty, full, fixed, narrowed_once, trimmed, cut};
 ghost use Rattle.price_trees.specs.Trees.{Refuted};
 ghost use Rattle.hold_choices.specs.Narrowed.{IsNarrowed};
+ghost use Rattle.tree_certificate.specs.Listed.{ListedTrees};
 ghost use Rattle.tree_checker.specs.TreeReading.{IsOpenAs, IsClosed};
-ghost use Rattle.tree_checker.specs.GoodTrees.{Tree, TreeHolds};
-ghost use Rattle.tree_laws.specs.Refutations.{Refutation, Refutes, written, HasRefutation};
+ghost use Rattle.tree_checker.specs.GoodTrees.{Tree, TreeHolds, IsGoodTrees};
+ghost use Rattle.tree_laws.specs.Refutations.{Refutation, Refutes, written, HasRefutation, IsGoodByTrees};
 ghost use Rattle.tree_laws.specs.GreatestChoices.{IsOfTask, IsWithin, IsStableWithin, IsGreatest};
 
 /// The operations of a tree hold, by the checker's walk, exactly where a refutation of its choice is written as these
-/// operations, in this order and to the last; where there is no tick, exactly where nothing is written. Only one
+/// operations, in this order and to the last; where there is no tick, exactly where nothing is written. So a
+/// certificate is good exactly where each of its trees has such a refutation, and its other parts hold. Only one
 /// refutation of a choice is written as some operations. By prices of what the task's own hold has little of, a choice
 /// with a refutation is refuted by the rules of trees.
 ///
@@ -20,6 +22,7 @@ ghost use Rattle.tree_laws.specs.GreatestChoices.{IsOfTask, IsWithin, IsStableWi
 pub fn refutation_laws()
     ensures holds { (t : Problem) (prices : List Prices) (tree : Tree)
         → TreeHolds t prices tree ↔ HasRefutation t prices tree }
+    ensures good { (t : Problem) (c : ListedTrees) → IsGoodTrees t c ↔ IsGoodByTrees t c }
     ensures one { (t : Problem) (ticks : Ticks) (prices : List Prices) (choice : Choice) (one other : Refutation)
         → Refutes t ticks prices one choice → Refutes t ticks prices other choice
         → written one ≡ written other → one ≡ other }
