@@ -3,6 +3,7 @@
 #![tactic(auto)]
 
 mod aim;
+mod four_moves;
 mod mending;
 mod moves;
 mod reaching;

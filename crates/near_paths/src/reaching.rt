@@ -1,6 +1,7 @@
 //! A path among the ticks by moves from a sound one.
 
 use crate::aim::{Aim, Place, place_of};
+use crate::four_moves::Near;
 use crate::moves::{Move, moves_of};
 use desk_base::NoMemory;
 use position_set::PositionSet;
@@ -16,9 +17,6 @@ const MOST_MOVES: u32 = 40;
 const MOST_NEARER: usize = 30;
 
 const SMALL_MOVES: usize = 8;
-
-/// A move, by how far it is from a change.
-type Near = (i64, Move);
 
 impl Aim<'_> {
     /// Moves by how far they are from a change, the nearest first.
@@ -58,10 +56,9 @@ impl Aim<'_> {
         moves_of(self.alloc, self.load, self.sets, path)
     }
 
-    /// A hit by a small move and then one or two.
-    fn small_first(&self, place: &Place, moves: &[Move]) -> Result<Option<Path>, NoMemory> {
-        let sorted = self.by_nearness(moves, 0)?;
-        for (_, step) in sorted.as_slice().iter().take(SMALL_MOVES) {
+    /// A hit by a small move and then one or two, of moves by how little they change the hold index.
+    fn small_first(&self, place: &Place, moves: &[Near]) -> Result<Option<Path>, NoMemory> {
+        for (_, step) in moves.iter().take(SMALL_MOVES) {
             if let Some(next) = place_of(self.load, step.apply(&place.path)) {
                 let moves = self.moves(&next.path)?;
                 if let Some(hit) = self.two_moves(&next, moves.as_slice()) {
@@ -70,6 +67,15 @@ impl Aim<'_> {
             }
         }
         Ok(None)
+    }
+
+    /// A hit by small moves.
+    fn by_small(&self, place: &Place, moves: &[Move]) -> Result<Option<Path>, NoMemory> {
+        let sorted = self.by_nearness(moves, 0)?;
+        match self.four_moves(place, sorted.as_slice())? {
+            Some(hit) => Ok(Some(hit)),
+            None => self.small_first(place, sorted.as_slice()),
+        }
     }
 
     /// A path among the ticks by moves from a sound one.
@@ -90,7 +96,7 @@ impl Aim<'_> {
             }
             match self.nearer(&place, moves.as_slice())? {
                 Some(next) => place = next,
-                None => return self.small_first(&place, moves.as_slice()),
+                None => return self.by_small(&place, moves.as_slice()),
             }
         }
         Ok(None)

@@ -13,7 +13,7 @@ const MOST_SECOND: usize = 8;
 
 /// What a trial of moves ends with.
 #[derive(Drop)]
-enum Tried {
+pub enum Tried {
     Hit(Path),
     /// None of them hits, and so many tests were made.
     Missed(u32),
