@@ -1,7 +1,8 @@
 //! How a choice is split in two.
 
+use arrayvec::ArrayVec;
 use position_set::PositionSet;
-use search_tables::{Load, has, one};
+use search_tables::{Load, each_of, has, one};
 
 /// A split of the positions of one container: the first part has the lesser influences.
 #[derive(Clone, Copy)]
@@ -24,8 +25,15 @@ impl Cut {
     }
 }
 
-/// The best split of the positions of the container at a rank, given all positions by influence.
-fn best_at(load: &Load, by_influence: &[u8], rank: usize, set: PositionSet) -> Option<Cut> {
+/// The best split of the positions of the container at a rank, given all positions by influence, where its weight is shared
+/// among so many.
+fn best_at(
+    load: &Load,
+    by_influence: &[u8],
+    rank: usize,
+    set: PositionSet,
+    share: i64,
+) -> Option<Cut> {
     let mass = load.mass(rank).saturating_add(1);
     let mut first = PositionSet::empty();
     let mut last: Option<i64> = None;
@@ -38,7 +46,8 @@ fn best_at(load: &Load, by_influence: &[u8], rank: usize, set: PositionSet) -> O
         if let Some(before) = last {
             let gap = influence.saturating_sub(before);
             let even = first.size().min(set.difference(first).size());
-            let weight = (mass.saturating_mul(gap), even);
+            let change = mass.saturating_mul(gap).checked_div(share).unwrap_or(0);
+            let weight = (change, even);
             best = Cut::heavier(
                 best,
                 Cut {
@@ -58,9 +67,49 @@ fn best_at(load: &Load, by_influence: &[u8], rank: usize, set: PositionSet) -> O
 pub fn best_cut(load: &Load, by_influence: &[u8], sets: &[PositionSet]) -> Option<Cut> {
     let mut best = None;
     for (rank, set) in sets.iter().enumerate() {
-        if let Some(cut) = best_at(load, by_influence, rank, *set) {
+        if let Some(cut) = best_at(load, by_influence, rank, *set, 1) {
             best = Cut::heavier(best, cut);
         }
     }
     best
+}
+
+/// The split by which the hold index changes most for each influence that the container has among its positions; none where
+/// each container has one position. So those are split first that have few left.
+pub fn closing_cut(
+    load: &Load,
+    by_influence: &[u8],
+    leaders: &[u8],
+    sets: &[PositionSet],
+) -> Option<Cut> {
+    let mut best = None;
+    for (rank, set) in sets.iter().enumerate() {
+        let share = i64::from(leaders_of(leaders, *set).size());
+        if let Some(cut) = best_at(load, by_influence, rank, *set, share) {
+            best = Cut::heavier(best, cut);
+        }
+    }
+    best
+}
+
+/// For each position the first one that has its influence.
+pub fn leaders_in(load: &Load) -> ArrayVec<u8, 64> {
+    let mut leaders = ArrayVec::new();
+    for number in 0u8..64 {
+        let influence = load.influence(number);
+        let leader = (0..number).find(|other| load.influence(*other) == influence);
+        let _ = leaders.try_push(leader.unwrap_or(number));
+    }
+    leaders
+}
+
+/// The first positions that have the influences of some.
+pub fn leaders_of(leaders: &[u8], set: PositionSet) -> PositionSet {
+    let mut led = PositionSet::empty();
+    for number in each_of(set) {
+        if let Some(leader) = leaders.get(usize::from(number)) {
+            led = led.union(one(*leader));
+        }
+    }
+    led
 }

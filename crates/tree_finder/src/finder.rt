@@ -3,11 +3,13 @@
 ghost use Rattle.std.specs.Prelude.{◌≡◌, ◌<◌, ◌+◌};
 
 use crate::closed::Closed;
+use crate::closing::Closing;
 use crate::cuts::Cut;
 use crate::ground::Ground;
 use crate::ledger::Ledger;
 use crate::met::{Met, is_among};
 use crate::opening::{copy_of_pair, free, opening_prices, raised};
+use crate::showing::{append, append_all, firsts, show};
 use desk_base::NoMemory;
 use hold_choices::Choices;
 use raised_prices::{Held, Pair};
@@ -22,6 +24,14 @@ const FIRST_LOOKS: u32 = 20;
 
 /// After that they are tried at one look of so many.
 const LOOKS_APART: u32 = 16;
+
+/// For each look that it is given, a search has so many steps to close choices.
+const STEPS_FOR_LOOK: u32 = 100;
+
+/// A choice is closed at once where its containers' influences can be chosen in no more ways, and the ticks span no more.
+const MOST_WAYS: u64 = 67_108_864;
+
+const MOST_SPAN: i64 = 1_000;
 
 /// What the search in a choice ends with.
 #[derive(Drop)]
@@ -49,25 +59,14 @@ pub struct Finder<'a> {
     pub ticks: TickSpan,
     /// How many choices may still be looked at.
     looks: u32,
+    /// How many steps there are to close choices, all together.
+    steps: u32,
     ledger: Ledger,
     met: Met,
     /// The own prices of the first choice of the last search, where a look left it open.
     own: Option<Pair>,
-}
-
-/// Appends an operation.
-fn append(tree: &mut Vec<Operation>, operation: Operation) -> Result<(), NoMemory> {
-    tree.push(operation)?;
-    Ok(())
-}
-
-/// The path of the first position of each set.
-fn firsts(choice: &Choices) -> Path {
-    let mut path = Path::new();
-    for set in choice.sets() {
-        let _ = path.try_push(set.first().unwrap_or(0));
-    }
-    path
+    /// What closes choices of few paths, where there was one.
+    closing: Option<Closing>,
 }
 
 impl<'a> Finder<'a> {
@@ -78,8 +77,10 @@ impl<'a> Finder<'a> {
             ledger: Ledger::new(ground.alloc),
             ground,
             looks,
+            steps: looks.saturating_mul(STEPS_FOR_LOOK),
             met: Met::nothing(),
             own: None,
+            closing: None,
         }
     }
 
@@ -107,23 +108,14 @@ impl<'a> Finder<'a> {
     ) -> Result<bool, Closed>
         ensures { self.new.looks ≡ self.old.looks }
     {
-        let load = self.ground.load;
-        if held.passes(load, choice.sets(), self.ticks) {
-            let list = self.ledger.number_of(self.ground.alloc, held)?;
-            append(tree, Operation::Leaf(list))?;
-            return Err(Closed::Refuted);
-        }
-        let trimmed = Choices::of(held.trimmed(load, choice.sets(), self.ticks));
-        if trimmed.same(choice) {
-            return Ok(false);
-        }
-        let list = self.ledger.number_of(self.ground.alloc, held)?;
-        append(tree, Operation::Narrow(list))?;
-        match self.ground.opened(trimmed) {
-            Some(open) => *choice = open,
-            None => return Err(Closed::Refuted),
-        }
-        Ok(true)
+        show(
+            &self.ground,
+            self.ticks,
+            &mut self.ledger,
+            held,
+            choice,
+            tree,
+        )
     }
 
     /// Prices raised for a choice, and whether they take positions from it.
@@ -161,18 +153,51 @@ impl<'a> Finder<'a> {
         Ok((Pair { low, high }, by_low || by_high))
     }
 
+    /// Takes what closes choices of few paths.
+    fn take_closing(&mut self) -> Result<Closing, NoMemory>
+        ensures { self.new.looks ≡ self.old.looks }
+    {
+        match self.closing.take() {
+            Some(closing) => Ok(closing),
+            None => Closing::of(&self.ground, &mut self.ledger, self.steps),
+        }
+    }
+
+    /// Refutes a choice of few paths for few ticks by given prices, or finds a path among it, unless that takes too long.
+    fn close(
+        &mut self,
+        from: &Pair,
+        choice: &Choices,
+        tree: &mut Vec<Operation>,
+    ) -> Result<(), Closed>
+        ensures { self.new.looks ≡ self.old.looks }
+    {
+        let span = self.ticks.high.saturating_sub(self.ticks.low);
+        if span > MOST_SPAN || self.ground.ways(choice) > MOST_WAYS {
+            return Ok(());
+        }
+        let mut closing = self.take_closing()?;
+        let ledger = &mut self.ledger;
+        let closed = closing.close(&self.ground, self.ticks, ledger, from, choice);
+        self.closing = Some(closing);
+        match closed? {
+            Some(operations) => {
+                append_all(tree, operations.as_slice())?;
+                Err(Closed::Refuted)
+            }
+            None => Ok(()),
+        }
+    }
+
     /// One look at a choice: what given prices show, then prices of its own, and the remainder. The prices of its own.
-    /// It takes one from the looks that are left.
     fn look(
         &mut self,
         from: &Pair,
         choice: &mut Choices,
         tree: &mut Vec<Operation>,
     ) -> Result<Pair, Closed>
-        requires { 0 < self.old.looks }
-        ensures { self.new.looks + 1 ≡ self.old.looks }
+        ensures { self.new.looks ≡ self.old.looks }
     {
-        self.looks -= 1;
         self.met = Met::nothing();
         self.test(&from.low, choice, tree)?;
         self.test(&from.high, choice, tree)?;
@@ -303,7 +328,7 @@ impl<'a> Finder<'a> {
     }
 
     /// Looks at the choice of this number in a search, with a path near which one may be among it, and splits what is left
-    /// of it.
+    /// of it. It takes one from the looks that are left.
     fn visit(
         &mut self,
         pending: Pending,
@@ -316,6 +341,8 @@ impl<'a> Finder<'a> {
         ensures { self.new.looks + 1 ≡ self.old.looks }
     {
         let Pending { mut choice, from } = pending;
+        self.looks -= 1;
+        self.close(&from, &choice, tree)?;
         let own = self.look(&from, &mut choice, tree)?;
         self.note_own(&own, number == 0)?;
         if number < FIRST_LOOKS || number % LOOKS_APART == 0 {

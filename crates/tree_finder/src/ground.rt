@@ -1,6 +1,6 @@
 //! What a search stands on.
 
-use crate::cuts::{Cut, best_cut};
+use crate::cuts::{Cut, best_cut, closing_cut, leaders_in, leaders_of};
 use crate::narrowing::Narrowing;
 use arrayvec::ArrayVec;
 use desk_base::NoMemory;
@@ -23,6 +23,8 @@ pub struct Ground<'a> {
     pub unit: i64,
     narrowing: Narrowing<'a>,
     by_influence: ArrayVec<u8, 64>,
+    /// For each position the first one that has its influence.
+    leaders: ArrayVec<u8, 64>,
 }
 
 /// The positions with their influences, in order of number.
@@ -55,6 +57,7 @@ impl<'a> Ground<'a> {
             unit: load.mean_mass(),
             narrowing: Narrowing::of(task),
             by_influence: by_influence(load),
+            leaders: leaders_in(load),
         }
     }
 
@@ -71,6 +74,27 @@ impl<'a> Ground<'a> {
     /// The split by which the hold index changes most; none where each container has one position.
     pub fn best_cut(&self, choice: &Choices) -> Option<Cut> {
         best_cut(self.load, self.by_influence.as_slice(), choice.sets())
+    }
+
+    /// The split with which a choice of few paths is closed; none where each container has one position.
+    pub fn closing_cut(&self, choice: &Choices) -> Option<Cut> {
+        let leaders = self.leaders.as_slice();
+        closing_cut(
+            self.load,
+            self.by_influence.as_slice(),
+            leaders,
+            choice.sets(),
+        )
+    }
+
+    /// How many ways the influences of the containers can be chosen.
+    pub fn ways(&self, choice: &Choices) -> u64 {
+        let mut ways: u64 = 1;
+        for set in choice.sets() {
+            let influences = leaders_of(self.leaders.as_slice(), *set);
+            ways = ways.saturating_mul(u64::from(influences.size()));
+        }
+        ways
     }
 
     /// A path among the ticks by moves within the choice from a sound path.
