@@ -12,7 +12,7 @@ use raised_prices::Held;
 use search_tables::{End, Limit, Load, TickSpan};
 use tree_certificate::Operation;
 
-/// A price of a kilogram that is more than all hold indices differ by.
+/// A price of a kilogram that outweighs what the hold indices of a hold differ by.
 const BAR: i64 = 1_000_000_000_000;
 
 /// For each limit its price alone, where it was needed.

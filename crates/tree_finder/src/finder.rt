@@ -31,7 +31,7 @@ const STEPS_FOR_LOOK: u32 = 100;
 /// A choice is closed at once where its containers' influences can be chosen in no more ways, and the ticks span no more.
 const MOST_WAYS: u64 = 67_108_864;
 
-const MOST_SPAN: i64 = 1_000;
+const MOST_SPAN: i64 = 100;
 
 /// What the search in a choice ends with.
 #[derive(Drop)]
