@@ -1,4 +1,5 @@
-//! Tests of the crates of trees: choices of positions, what the search looks up, prices, moves of containers, texts of certificates.
+//! Tests of the crates of trees: choices of positions, what the search looks up, prices, moves of containers,
+//! remainders, texts of certificates.
 //! They stand apart, since a crate with tests is proved twice.
 #![tactic(auto)]
 
@@ -15,6 +16,8 @@ use std::process::{Abort, ExitCode, Termination};
 mod choice_prices_tests;
 #[cfg(test)]
 mod choices;
+#[cfg(test)]
+mod index_remainders_tests;
 #[cfg(test)]
 mod judgements;
 #[cfg(test)]
