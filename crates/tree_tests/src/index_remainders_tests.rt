@@ -76,7 +76,10 @@ fn ticks_that_leave_a_remainder_are_found(rt: HostRuntime) {
             for tick in ticks.low..=ticks.high {
                 found = found || index.abs_diff(tick).checked_rem(divisor) == Some(0);
             }
-            assert!(rt; allows(ticks, index, divisor) == found, "{divisor} {index} {low}");
+            assert!(rt;
+                allows(ticks, index, divisor) == found,
+                "{divisor} {index} {low}"
+            );
         }
     }
 }

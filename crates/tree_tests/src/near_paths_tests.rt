@@ -46,7 +46,8 @@ fn four_apart(changes: [i64; 4]) -> Load {
     load.cliques = Cliques::new();
     load.places = ArrayVec::new();
     for (number, change) in (0u8..4).zip(changes) {
-        let (first, second) = (number * 2, number * 2 + 1);
+        let first = number.saturating_mul(2);
+        let second = first.saturating_add(1);
         let _ = load.containers.try_push(Container {
             mass: 1,
             class: number,
