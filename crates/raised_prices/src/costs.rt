@@ -1,7 +1,16 @@
 //! What containers cost on positions.
 
+ghost use Rattle.std.specs.Prelude.{◌<◌};
+
 use position_set::PositionSet;
 use search_tables::{End, Limit, Load, each_of};
+
+/// The place of a number in a table.
+fn slot(number: u8) -> usize
+    ensures { result < 64 }
+{
+    usize::from(number % 64)
+}
 
 /// A container costs a rate for each kilogram on its position, and a fee.
 #[derive(Clone, Copy, Debug)]
@@ -31,6 +40,12 @@ impl Costs {
         }
     }
 
+    /// Adds a fee on a position. It wraps where it is too great for a number.
+    pub fn charge_one(&mut self, number: u8, price: i64) {
+        let place = slot(number);
+        self.fees[place] = self.fees[place].wrapping_add(price);
+    }
+
     /// Adds to each position a fee of its own.
     pub fn charge_each(&mut self, prices: &[i64; 64]) {
         for number in 0..64 {
@@ -53,9 +68,16 @@ impl Costs {
 
     /// What a container of a mass costs on a position.
     pub fn cost(&self, mass: i64, number: u8) -> i64 {
-        let place = usize::from(number % 64);
+        let place = slot(number);
         mass.saturating_mul(self.rates[place])
             .saturating_add(self.fees[place])
+    }
+
+    /// The same, where that is not too great for a number. Elsewhere it wraps.
+    pub fn wrapped(&self, mass: i64, number: u8) -> i64 {
+        let place = slot(number);
+        mass.wrapping_mul(self.rates[place])
+            .wrapping_add(self.fees[place])
     }
 
     /// The least that a container of a mass costs on one of some positions; more than anything where there is none.

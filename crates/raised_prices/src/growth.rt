@@ -1,19 +1,10 @@
 //! Paths from a container without a position to all that it may come to by turning others out.
 
-use arrayvec::ArrayVec;
 use position_set::PositionSet;
 use search_tables::{each_of, one};
 
 /// More than the length of any path.
 const FAR: i64 = i64::MAX;
-
-/// A container that was met, with the position that it has, and how long the path to it is.
-#[derive(Clone, Copy, Debug, Default)]
-pub struct Met {
-    pub rank: u8,
-    pub place: Option<u8>,
-    pub length: i64,
-}
 
 /// Paths, the shortest to each position, and how far they have grown.
 #[derive(Drop)]
@@ -24,8 +15,6 @@ pub struct Growth {
     /// The positions that are settled, and those that are met and not settled.
     pub done: PositionSet,
     front: PositionSet,
-    /// The containers in the order in which they were met.
-    pub met: ArrayVec<Met, 65>,
     /// The length of the last path.
     pub length: i64,
 }
@@ -37,7 +26,6 @@ impl Growth {
             before: [0; 64],
             done: PositionSet::empty(),
             front: PositionSet::empty(),
-            met: ArrayVec::new(),
             length: 0,
         }
     }
@@ -47,13 +35,9 @@ impl Growth {
         self.before[usize::from(number % 64)]
     }
 
-    /// Notes a container that was met, at the length of the last path.
-    pub fn meet(&mut self, rank: u8, place: Option<u8>) {
-        let _ = self.met.try_push(Met {
-            rank,
-            place,
-            length: self.length,
-        });
+    /// The length of the path to a position.
+    pub fn length_to(&self, number: u8) -> i64 {
+        self.least[usize::from(number % 64)]
     }
 
     /// Notes a path to a position by a container, where none is as short.
@@ -62,8 +46,14 @@ impl Growth {
         if length < self.least[place] {
             self.least[place] = length;
             self.before[place] = rank;
-            self.front = self.front.union(one(number));
         }
+    }
+
+    /// The positions of a set that are not settled: paths to all of them are noted.
+    pub fn open(&mut self, set: PositionSet) -> PositionSet {
+        let ahead = set.difference(self.done);
+        self.front = self.front.union(ahead);
+        ahead
     }
 
     /// The nearest position in front. None where there is none.
@@ -71,8 +61,9 @@ impl Growth {
         let mut least = FAR;
         let mut nearest = None;
         for number in each_of(self.front) {
-            if self.least[usize::from(number)] < least {
-                least = self.least[usize::from(number)];
+            let length = self.least[usize::from(number)];
+            if length < least {
+                least = length;
                 nearest = Some(number);
             }
         }

@@ -26,16 +26,15 @@ pub enum Assigned {
     },
 }
 
-/// An assignment of some containers, with what makes it the cheapest.
+/// An assignment of some containers, with what makes it the cheapest: no other position costs a container less than its own.
 #[derive(Drop)]
 struct Matching<'a> {
     load: &'a Load,
     sets: &'a [PositionSet],
-    costs: &'a Costs,
-    /// What a container pays, by its rank.
-    paid: [i64; 64],
-    /// What a position is discounted.
-    discount: [i64; 64],
+    /// The costs, with what a position is worth as a fee.
+    costs: Costs,
+    /// What a position is worth: nothing where nobody has it.
+    worth: [i64; 64],
     /// The container that has a position, and the position that a container has, by its rank.
     owners: [Option<u8>; 64],
     places: [Option<u8>; 64],
@@ -57,16 +56,16 @@ impl Matching<'_> {
         set_at(self.sets, usize::from(rank))
     }
 
-    /// The cheapest position of a container, with what it costs.
-    fn cheapest(&self, rank: u8) -> Option<(u8, i64)> {
+    /// The cheapest position of a container.
+    fn cheapest(&self, rank: u8) -> Option<u8> {
         let mass = self.mass(rank);
         let mut best = None;
         let mut least = i64::MAX;
         for number in each_of(self.set(rank)) {
-            let cost = self.costs.cost(mass, number);
+            let cost = self.costs.wrapped(mass, number);
             if cost < least {
                 least = cost;
-                best = Some((number, cost));
+                best = Some(number);
             }
         }
         best
@@ -83,10 +82,9 @@ impl Matching<'_> {
     fn begin(&mut self, ranks: &Ranks) -> Result<Ranks, u8> {
         let mut left = Ranks::new();
         for rank in ranks.as_slice() {
-            let Some((number, cost)) = self.cheapest(*rank) else {
+            let Some(number) = self.cheapest(*rank) else {
                 return Err(*rank);
             };
-            self.paid[slot(*rank)] = cost;
             if self.owners[slot(number)].is_none() {
                 self.give(number, *rank);
             } else {
@@ -96,46 +94,35 @@ impl Matching<'_> {
         Ok(left)
     }
 
-    /// Looks from a container on: it might go to any of its positions.
-    fn look_from(&self, growth: &mut Growth, rank: u8) {
+    /// Looks from a container on: it might go to any of its positions, for so much beside what they cost.
+    fn look_from(&self, growth: &mut Growth, rank: u8, shift: i64) {
         let mass = self.mass(rank);
-        let shift = growth.length.saturating_sub(self.paid[slot(rank)]);
-        let ahead = self.set(rank).difference(growth.done);
-        for number in each_of(ahead) {
-            let cost = self.costs.cost(mass, number).saturating_add(shift);
-            let length = cost.saturating_sub(self.discount[usize::from(number)]);
+        for number in each_of(growth.open(self.set(rank))) {
+            let length = self.costs.wrapped(mass, number).wrapping_add(shift);
             growth.reach(number, rank, length);
         }
     }
 
     /// Grows paths from a container until one comes to a position that nobody has. None where none does.
     fn grow(&self, growth: &mut Growth, first: u8) -> Option<u8> {
-        let mut rank = first;
-        let mut place = None;
-        for _ in 0..=64 {
-            growth.meet(rank, place);
-            self.look_from(growth, rank);
+        self.look_from(growth, first, 0);
+        for _ in 0..64 {
             let number = growth.advance()?;
-            match self.owners[slot(number)] {
-                Some(owner) => rank = owner,
-                None => return Some(number),
-            }
-            place = Some(number);
+            let Some(owner) = self.owners[slot(number)] else {
+                return Some(number);
+            };
+            let cost = self.costs.wrapped(self.mass(owner), number);
+            self.look_from(growth, owner, growth.length.wrapping_sub(cost));
         }
         None
     }
 
-    /// Makes each container that was met pay so much more, and each position of theirs cost so much less, that all paths
-    /// which are not shorter are as cheap.
+    /// Makes each position that was met worth so much more that all paths which are not shorter are as cheap.
     fn settle(&mut self, growth: &Growth) {
-        for met in growth.met.as_slice() {
-            let gain = growth.length.saturating_sub(met.length);
-            let rank = slot(met.rank);
-            self.paid[rank] = self.paid[rank].saturating_add(gain);
-            if let Some(number) = met.place {
-                let place = slot(number);
-                self.discount[place] = self.discount[place].saturating_sub(gain);
-            }
+        for number in each_of(growth.done) {
+            let gain = growth.length.wrapping_sub(growth.length_to(number));
+            self.costs.charge_one(number, gain);
+            self.worth[slot(number)] = self.worth[slot(number)].wrapping_add(gain);
         }
     }
 
@@ -163,34 +150,32 @@ impl Matching<'_> {
         true
     }
 
-    /// What the positions are worth: their discounts below zero.
-    fn worth(&self) -> [i64; 64] {
-        let mut worth = [0; 64];
-        for place in 0..64 {
-            worth[place] = self.discount[place].saturating_neg();
+    /// A container and those that have the positions which were met from it, where these are too few for them.
+    fn short(&self, growth: &Growth, first: u8) -> Assigned {
+        let mut ranks = only(first);
+        for number in each_of(growth.done) {
+            if let Some(owner) = self.owners[slot(number)] {
+                let _ = ranks.try_push(owner);
+            }
         }
-        worth
+        Assigned::Short {
+            ranks,
+            places: growth.done,
+        }
     }
 }
 
-/// The containers that were met, where there are too few positions for them.
-fn short(growth: &Growth) -> Assigned {
+/// One rank alone.
+fn only(rank: u8) -> Ranks {
     let mut ranks = Ranks::new();
-    for met in growth.met.as_slice() {
-        let _ = ranks.try_push(met.rank);
-    }
-    Assigned::Short {
-        ranks,
-        places: growth.done,
-    }
+    let _ = ranks.try_push(rank);
+    ranks
 }
 
 /// A container that has no position at all.
 fn nowhere(rank: u8) -> Assigned {
-    let mut ranks = Ranks::new();
-    let _ = ranks.try_push(rank);
     Assigned::Short {
-        ranks,
+        ranks: only(rank),
         places: PositionSet::empty(),
     }
 }
@@ -200,9 +185,8 @@ pub fn assign(load: &Load, sets: &[PositionSet], costs: &Costs, ranks: &Ranks) -
     let mut matching = Matching {
         load,
         sets,
-        costs,
-        paid: [0; 64],
-        discount: [0; 64],
+        costs: *costs,
+        worth: [0; 64],
         owners: [None; 64],
         places: [None; 64],
     };
@@ -213,11 +197,11 @@ pub fn assign(load: &Load, sets: &[PositionSet], costs: &Costs, ranks: &Ranks) -
     for rank in left.as_slice() {
         let mut growth = Growth::new();
         if !matching.add(*rank, &mut growth) {
-            return short(&growth);
+            return matching.short(&growth, *rank);
         }
     }
     Assigned::Whole {
         places: matching.places,
-        worth: matching.worth(),
+        worth: matching.worth,
     }
 }
