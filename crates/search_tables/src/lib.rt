@@ -14,5 +14,5 @@ pub use cliques::{Cliques, cliques_of};
 pub use load::{Container, Limit, Load, Place};
 pub use numbers::{Numbers, each_of, has, one};
 pub use paths::{Path, copy_of, exchange, number_at, put, set_at};
-pub use sums::{index_of, load_of, rising, sound_index, used_by};
+pub use sums::{Stowage, index_of, load_of, rising, sound_index, used_by};
 pub use ticks::{End, TickSpan};

@@ -3,8 +3,8 @@ use crate::pass;
 use crate::small_load::{four, load, pair};
 use case_rows::Subject;
 use search_tables::{
-    End, Path, TickSpan, cliques_of, each_of, exchange, has, index_of, load_of, number_at, one,
-    put, rising, set_at, sound_index, used_by,
+    End, Path, Stowage, TickSpan, cliques_of, each_of, exchange, has, index_of, load_of, number_at,
+    one, put, rising, set_at, sound_index, used_by,
 };
 use std::alloc::{AllocError, Global};
 use std::test::Fail;
@@ -29,7 +29,7 @@ fn path_of(case: &str) -> Path {
     path
 }
 
-/// The index of a path, what it takes of the limit, and its index if it is sound.
+/// The index of a path, what it takes of the limit, told in both ways, and its index if it is sound.
 struct Paths;
 
 impl Subject for Paths {
@@ -40,6 +40,7 @@ impl Subject for Paths {
         let numbers = (
             index_of(&load, path.as_slice()),
             load_of(&load, limit, path.as_slice()),
+            Stowage::of(&load, path.as_slice()).load_of(limit),
         );
         Ok(format!(in alloc; "{numbers:?} {:?}", sound_index(&load, path.as_slice()))?)
     }
@@ -47,14 +48,14 @@ impl Subject for Paths {
 
 #[test]
 fn a_path_comes_to_its_index_and_loads_and_is_sound_where_each_rule_holds(rt: HostRuntime) {
-    let rows = "(-119993, 200) Some(-119993)|03
-(120007, -200) Some(120007)|30
-(-879993, 1800) None|10
-(600007, -1000) None|39
-(-919993, 1800) None|01
-(-79993, 200) None|12
-(1080007, -1800) None|33
-(-599993, 1000) None|04";
+    let rows = "(-119993, 200, 200) Some(-119993)|03
+(120007, -200, -200) Some(120007)|30
+(-879993, 1800, 1800) None|10
+(600007, -1000, -1000) None|39
+(-919993, 1800, 1800) None|01
+(-79993, 200, 200) None|12
+(1080007, -1800, -1800) None|33
+(-599993, 1000, 1000) None|04";
     pass(&rt, rt.alloc(), &Paths, rows);
 }
 
