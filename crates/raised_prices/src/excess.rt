@@ -3,7 +3,7 @@
 use crate::standing::Standing;
 use desk_base::NoMemory;
 use position_set::PositionSet;
-use search_tables::{Load, load_of, used_by};
+use search_tables::{Load, Stowage, used_by};
 use std::alloc::Global;
 
 /// A step is this much of the way, at most, in parts of `WHOLE`.
@@ -44,9 +44,10 @@ pub fn limit_excess(
     prices: &[i64],
     path: &[u8],
 ) -> Result<Vec<i64>, NoMemory> {
+    let stowage = Stowage::of(load, path);
     let mut excess = Vec::new(alloc);
     for (limit, price) in load.limits.as_slice().iter().zip(prices) {
-        let over = load_of(load, limit, path).saturating_sub(limit.room);
+        let over = stowage.load_of(limit).saturating_sub(limit.room);
         excess.push(counted(over, *price))?;
     }
     Ok(excess)

@@ -15,6 +15,10 @@ pub struct Growth {
     /// The positions that are settled, and those that are met and not settled.
     pub done: PositionSet,
     front: PositionSet,
+    /// The nearest position in front so far, and how far it is; and those in front that the last look did not reach.
+    nearest: u8,
+    distance: i64,
+    behind: PositionSet,
     /// The length of the last path.
     pub length: i64,
 }
@@ -26,6 +30,9 @@ impl Growth {
             before: [0; 64],
             done: PositionSet::empty(),
             front: PositionSet::empty(),
+            nearest: 0,
+            distance: FAR,
+            behind: PositionSet::empty(),
             length: 0,
         }
     }
@@ -47,35 +54,38 @@ impl Growth {
             self.least[place] = length;
             self.before[place] = rank;
         }
+        self.compare(number);
+    }
+
+    /// Compares a position in front with the nearest so far.
+    fn compare(&mut self, number: u8) {
+        let length = self.length_to(number);
+        if length < self.distance {
+            self.distance = length;
+            self.nearest = number;
+        }
     }
 
     /// The positions of a set that are not settled: paths to all of them are noted.
     pub fn open(&mut self, set: PositionSet) -> PositionSet {
         let ahead = set.difference(self.done);
+        self.distance = FAR;
+        self.behind = self.front.difference(ahead);
         self.front = self.front.union(ahead);
         ahead
     }
 
-    /// The nearest position in front. None where there is none.
-    fn nearest(&self) -> Option<u8> {
-        let mut least = FAR;
-        let mut nearest = None;
-        for number in each_of(self.front) {
-            let length = self.least[usize::from(number)];
-            if length < least {
-                least = length;
-                nearest = Some(number);
-            }
-        }
-        nearest
-    }
-
     /// Settles the nearest position in front. None where there is none.
     pub fn advance(&mut self) -> Option<u8> {
-        let number = self.nearest()?;
-        self.length = self.least[usize::from(number % 64)];
-        self.done = self.done.union(one(number));
-        self.front = self.front.difference(one(number));
-        Some(number)
+        for number in each_of(self.behind) {
+            self.compare(number);
+        }
+        if self.distance == FAR {
+            return None;
+        }
+        self.length = self.distance;
+        self.done = self.done.union(one(self.nearest));
+        self.front = self.front.difference(one(self.nearest));
+        Some(self.nearest)
     }
 }

@@ -26,7 +26,7 @@ pub enum Assigned {
     },
 }
 
-/// An assignment of some containers, with what makes it the cheapest: no other position costs a container less than its own.
+/// An assignment of some containers, with what makes it the cheapest: no position costs a container less than its own.
 #[derive(Drop)]
 struct Matching<'a> {
     load: &'a Load,
@@ -59,16 +59,20 @@ impl Matching<'_> {
     /// The cheapest position of a container.
     fn cheapest(&self, rank: u8) -> Option<u8> {
         let mass = self.mass(rank);
-        let mut best = None;
         let mut least = i64::MAX;
+        let mut cheapest = 0;
         for number in each_of(self.set(rank)) {
             let cost = self.costs.wrapped(mass, number);
             if cost < least {
                 least = cost;
-                best = Some(number);
+                cheapest = number;
             }
         }
-        best
+        if least < i64::MAX {
+            Some(cheapest)
+        } else {
+            None
+        }
     }
 
     /// Gives a position to a container.
@@ -121,7 +125,7 @@ impl Matching<'_> {
     fn settle(&mut self, growth: &Growth) {
         for number in each_of(growth.done) {
             let gain = growth.length.wrapping_sub(growth.length_to(number));
-            self.costs.charge_one(number, gain);
+            self.costs.raise_fee(number, gain);
             self.worth[slot(number)] = self.worth[slot(number)].wrapping_add(gain);
         }
     }

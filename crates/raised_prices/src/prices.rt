@@ -86,6 +86,14 @@ fn union_of(sets: &[PositionSet]) -> PositionSet {
     union
 }
 
+fn sum_of(numbers: &[i64]) -> i64 {
+    let mut sum: i64 = 0;
+    for number in numbers {
+        sum = sum.saturating_add(*number);
+    }
+    sum
+}
+
 fn positions_worth(prices: &[i64; 64], open: PositionSet) -> i64 {
     let mut sum: i64 = 0;
     for number in each_of(open) {
@@ -122,12 +130,17 @@ pub struct Held {
 }
 
 impl Held {
-    /// The value over a choice: no sound path among it has a hold index that is nearer to the end.
-    pub fn value(&self, load: &Load, sets: &[PositionSet]) -> i64 {
+    /// The value over a choice, where its containers cost so much at least, together.
+    fn value_by(&self, load: &Load, sets: &[PositionSet], leasts: i64) -> i64 {
         let loose = self.prices.end.counted(load.loose);
         loose
-            .saturating_add(self.costs.leasts(load, sets))
+            .saturating_add(leasts)
             .saturating_sub(self.prices.worth(load, sets))
+    }
+
+    /// The value over a choice: no sound path among it has a hold index that is nearer to the end.
+    pub fn value(&self, load: &Load, sets: &[PositionSet]) -> i64 {
+        self.value_by(load, sets, self.costs.leasts(load, sets))
     }
 
     /// Whether the value over a choice is beyond the ticks.
@@ -142,11 +155,14 @@ impl Held {
         sets: &[PositionSet],
         ticks: TickSpan,
     ) -> ArrayVec<PositionSet, 60> {
-        let goal = ticks.goal(self.prices.end);
-        let slack = goal.saturating_sub(self.value(load, sets));
+        let leasts = self.costs.each_least(load, sets);
+        let value = self.value_by(load, sets, sum_of(leasts.as_slice()));
+        let slack = ticks.goal(self.prices.end).saturating_sub(value);
         let mut trimmed = ArrayVec::new();
-        for (container, set) in load.containers.as_slice().iter().zip(sets) {
-            let _ = trimmed.try_push(self.costs.cheap(container.mass, *set, slack));
+        let containers = load.containers.as_slice().iter().zip(sets);
+        for ((container, set), least) in containers.zip(leasts.as_slice()) {
+            let most = least.saturating_add(slack);
+            let _ = trimmed.try_push(self.costs.at_most(container.mass, *set, most));
         }
         trimmed
     }

@@ -7,7 +7,7 @@ use crate::prices::{Held, Prices};
 use crate::standing::{Standing, open_ranks, settled_load};
 use desk_base::NoMemory;
 use position_set::PositionSet;
-use search_tables::{Load, Path, each_of, set_at};
+use search_tables::{Limit, Load, Path, each_of, set_at};
 use std::alloc::Global;
 
 /// The greatest price of a kilogram that a step comes to.
@@ -108,11 +108,15 @@ impl Raising<'_> {
         }
     }
 
+    /// Whether the containers that have one position alone keep a limit.
+    fn is_kept(&self, limit: &Limit) -> bool {
+        settled_load(self.load, self.sets, limit) <= limit.room
+    }
+
     /// Drops the prices of limits that no open container touches and that hold.
     fn drop_limits(&self, standing: &Standing, prices: &mut [i64]) {
         for (price, limit) in prices.iter_mut().zip(self.load.limits.as_slice()) {
-            let load = settled_load(self.load, self.sets, limit);
-            if !standing.touches(limit) && load <= limit.room {
+            if *price != 0 && !standing.touches(limit) && self.is_kept(limit) {
                 *price = 0;
             }
         }
@@ -139,11 +143,19 @@ impl Raising<'_> {
         })
     }
 
-    /// Takes one step of the prices towards the goal along the excess. False where there is no excess.
-    fn step(&self, prices: &mut Prices, excess: &Excess, share: i128, value: i64) -> bool {
+    /// Takes one step of the prices towards the goal along what a path has in excess. False where it has none.
+    fn step(
+        &self,
+        prices: &mut Prices,
+        standing: &Standing,
+        path: &Path,
+        share: i128,
+        value: i64,
+    ) -> Result<bool, NoMemory> {
+        let excess = self.excess(standing, prices, path.as_slice())?;
         let norm = excess.norm();
         if norm == 0 {
-            return false;
+            return Ok(false);
         }
         let gap = self.goal.saturating_sub(value).min(40_000_000).max(1_000);
         let force = share.saturating_mul(i128::from(gap));
@@ -159,7 +171,7 @@ impl Raising<'_> {
         };
         of_limits.take(prices.limits.as_mut_slice(), excess.limits.as_slice());
         of_cliques.take(prices.cliques.as_mut_slice(), excess.cliques.as_slice());
-        true
+        Ok(true)
     }
 
     /// A price that is high enough for positions of which there are too few for these containers.
@@ -253,12 +265,10 @@ impl Raising<'_> {
                 Priced::Short(held) => return Ok(held),
             };
             pace.note(value, held, self.goal);
-            let excess = self.excess(&standing, &prices, path.as_slice())?;
+            let is_last = value > self.goal || step == steps || pace.stale > MOST_STALE;
+            let is_over = is_last || !self.step(&mut prices, &standing, &path, pace.share, value)?;
             met.push(path)?;
-            if value > self.goal || step == steps || pace.stale > MOST_STALE {
-                break;
-            }
-            if !self.step(&mut prices, &excess, pace.share, value) {
+            if is_over {
                 break;
             }
         }
