@@ -6,6 +6,15 @@ use arrayvec::ArrayVec;
 use position_set::PositionSet;
 use search_tables::{End, Limit, Load, each_of};
 
+/// Costs are plainly within the numbers where no mass is greater than this,
+const SMALL_MASS: i64 = 1 << 20;
+
+/// no rate than this,
+const SMALL_RATE: i64 = 1 << 41;
+
+/// and no fee than this, which is as much as the two come to.
+const SMALL_FEE: i64 = 1 << 61;
+
 /// The place of a number in a table.
 fn slot(number: u8) -> usize
     ensures { result < 64 }
@@ -80,10 +89,10 @@ impl Costs {
         self.add_rate(limit.discounted, price.saturating_neg());
     }
 
-    /// Whether no cost of a container of a mass is too great for a number.
+    /// Whether it is plain that no cost of a container of a mass is too great for a number.
     fn fits(&self, mass: i64) -> bool {
-        let most = mass.saturating_abs().saturating_mul(self.most_rate);
-        most.saturating_add(self.most_fee) < i64::MAX
+        let is_small = 0 <= mass && mass <= SMALL_MASS;
+        is_small && self.most_rate <= SMALL_RATE && self.most_fee <= SMALL_FEE
     }
 
     /// What a container of a mass costs on a position.

@@ -101,10 +101,12 @@ impl Step {
         i64::try_from(moved).unwrap_or(self.most).min(self.most)
     }
 
-    /// Moves prices along their excess.
+    /// Moves the prices that have an excess along it.
     pub fn take(self, prices: &mut [i64], excess: &[i64]) {
         for (price, over) in prices.iter_mut().zip(excess) {
-            *price = self.moved(*price, *over);
+            if *over != 0 {
+                *price = self.moved(*price, *over);
+            }
         }
     }
 }

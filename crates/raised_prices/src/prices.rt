@@ -105,7 +105,9 @@ fn positions_worth(prices: &[i64; 64], open: PositionSet) -> i64 {
 fn limits_worth(limits: &[Limit], prices: &[i64]) -> i64 {
     let mut sum: i64 = 0;
     for (limit, price) in limits.iter().zip(prices) {
-        sum = sum.saturating_add(price.saturating_mul(limit.room));
+        if *price != 0 {
+            sum = sum.saturating_add(price.saturating_mul(limit.room));
+        }
     }
     sum
 }
@@ -113,7 +115,7 @@ fn limits_worth(limits: &[Limit], prices: &[i64]) -> i64 {
 fn cliques_worth(cliques: &[PositionSet], prices: &[i64], open: PositionSet) -> i64 {
     let mut sum: i64 = 0;
     for (clique, price) in cliques.iter().zip(prices) {
-        if clique.meets(open) {
+        if *price != 0 && clique.meets(open) {
             sum = sum.saturating_add(*price);
         }
     }
