@@ -33,11 +33,25 @@ class Hold:
     def combined(self, most, names):
         self.comb.append((most, sorted(names, key=self.at)))
 
-    def forward(self, name, most):
-        self.cum.append(("forward", name, most))
+    def cumulative(self, way, *limits):
+        """What may be loaded from an end up to each of some positions."""
+        self.cum += [(way, name, most) for name, most in limits]
 
-    def aft(self, name, most):
-        self.cum.append(("aft", name, most))
+    def over_containers(self, pallets):
+        """Each pallet position takes the rows of containers below it, and some take each other."""
+        for name, comp, infl, rows in pallets:
+            for row in rows:
+                for side in "LR":
+                    self.exclude(name, row + side)
+
+    def bulk(self, *positions):
+        for name, infl in positions:
+            self.add(name, 5, infl, [])
+
+    def in_compartments(self, *limits):
+        """What some compartments may be loaded with together."""
+        for most, comps in limits:
+            self.combined(most, [name for name, comp, infl, fits in self.pos if comp in comps])
 
     # what follows is used to find some sound placements
     def prepare(self):
@@ -126,17 +140,14 @@ def narrow():
     for name, comp, infl in (("11", 1, -707), ("12", 1, -554), ("13", 1, -401),
                              ("31", 3, 283), ("32", 3, 436), ("41", 4, 589), ("42", 4, 742)):
         h.add(name, comp, infl, ake)
-    for name, infl in (("51", 905), ("52", 985), ("53", 1065)):
-        h.add(name, 5, infl, [])
+    h.bulk(("51", 905), ("52", 985), ("53", 1065))
     h.combined(3402, ["11", "12", "13"])
     h.combined(2268, ["31", "32"])
     h.combined(2110, ["41", "42"])
     h.combined(4178, ["31", "32", "41", "42"])
     h.combined(1497, ["51", "52", "53"])
-    h.forward("11", 1134)
-    h.forward("12", 2200)
-    h.aft("41", 3400)
-    h.aft("31", 5500)
+    h.cumulative("forward", ("11", 1134), ("12", 2200))
+    h.cumulative("aft", ("41", 3400), ("31", 5500))
     return h
 
 
@@ -156,35 +167,18 @@ def wide():
                ("41P", 4, 446, ["41", "42"]), ("42P", 4, 539, ["42", "43"])]
     for name, comp, infl, over in pallets:
         h.add(name, comp, infl, [("PMC", 5103), ("PAG", 4626)])
-    h.add("52", 5, 641, [])
-    h.add("53", 5, 690, [])
+    h.bulk(("52", 641), ("53", 690))
     h.sort()
-    for name, comp, infl, over in pallets:
-        for row in over:
-            for side in "LR":
-                h.exclude(name, row + side)
+    h.over_containers(pallets)
     h.exclude("11P", "12P")
     h.exclude("21P", "22P")
     h.exclude("31P", "32P")
     h.exclude("41P", "42P")
-    by = lambda c: [p[0] for p in h.pos if p[1] in c]
-    h.combined(9525, by([1]))
-    h.combined(12700, by([2]))
-    h.combined(18869, by([1, 2]))
-    h.combined(9525, by([3]))
-    h.combined(9525, by([4]))
-    h.combined(15241, by([3, 4]))
-    h.combined(3468, by([5]))
+    h.in_compartments((9525, [1]), (12700, [2]), (18869, [1, 2]), (9525, [3]), (9525, [4]), (15241, [3, 4]), (3468, [5]))
     for row in rows:
         h.combined(3100, [row[0] + "L", row[0] + "R"])
-    h.forward("11R", 3100)
-    h.forward("12R", 6000)
-    h.forward("13R", 9100)
-    h.forward("22R", 14500)
-    h.aft("43L", 6100)
-    h.aft("42L", 9200)
-    h.aft("41L", 12200)
-    h.aft("31L", 18000)
+    h.cumulative("forward", ("11R", 3100), ("12R", 6000), ("13R", 9100), ("22R", 14500))
+    h.cumulative("aft", ("43L", 6100), ("42L", 9200), ("41L", 12200), ("31L", 18000))
     return h
 
 
@@ -212,34 +206,17 @@ def freighter():
            ("41P", 4, 268, ["41", "42"]), ("42P", 4, 332, []), ("43P", 4, 396, [])]
     for name, comp, infl, over in low:
         h.add(name, comp, infl, [("PMC", 5034), ("PLA", 3174)])
-    for name, infl in (("52", 440), ("53", 470), ("54", 500)):
-        h.add(name, 5, infl, [])
+    h.bulk(("52", 440), ("53", 470), ("54", 500))
     h.sort()
-    for name, comp, infl, over in low:
-        for row in over:
-            for side in "LR":
-                h.exclude(name, row + side)
+    h.over_containers(low)
     h.exclude("11P", "12P")
     h.exclude("21P", "22P")
     h.exclude("31P", "32P")
-    by = lambda c: [p[0] for p in h.pos if p[1] in c]
-    h.combined(22000, by([1, 2]))
-    h.combined(18000, by([3, 4]))
-    h.combined(4000, by([5]))
-    h.combined(52000, by([6]))
-    h.combined(62000, by([7]))
-    h.combined(42000, by([8]))
-    h.combined(114000, by([6, 7, 8]))
+    h.in_compartments((22000, [1, 2]), (18000, [3, 4]), (4000, [5]), (52000, [6]), (62000, [7]), (42000, [8]), (114000, [6, 7, 8]))
     for row in "CDEFGHJKLMPQ":
         h.combined(11200, [row + "L", row + "R"])
-    h.forward("A2", 11000)
-    h.forward("BR", 26000)
-    h.forward("DR", 48000)
-    h.forward("FR", 74000)
-    h.aft("T1", 9000)
-    h.aft("QL", 24000)
-    h.aft("PL", 34000)
-    h.aft("ML", 46000)
+    h.cumulative("forward", ("A2", 11000), ("BR", 26000), ("DR", 48000), ("FR", 74000))
+    h.cumulative("aft", ("T1", 9000), ("QL", 24000), ("PL", 34000), ("ML", 46000))
     return h
 
 
