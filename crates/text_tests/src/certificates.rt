@@ -149,7 +149,7 @@ Some(Line(3))|3|61|cut";
     pass(&rt, rt.alloc(), &Refused, rows);
 }
 
-/// The first length of the certificate that is not refused for want of its start or its end.
+/// The first length of the certificate that is not refused because its start or its end is missing.
 fn first_other_length(alloc: Global) -> Result<Option<usize>, Fail> {
     let task = task(alloc)?;
     let text = CERTIFICATE.as_bytes();

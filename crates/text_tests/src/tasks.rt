@@ -168,7 +168,7 @@ Some(Task(LooseTooHeavy(0)))|13|1|loose 51 20001";
     pass(&rt, rt.alloc(), &Refused, rows);
 }
 
-/// The first length of the task's text that is not refused for want of its end.
+/// The first length of the task's text that is not refused because its end is missing.
 fn first_other_length(alloc: Global) -> Option<usize> {
     let text = TASK.as_bytes();
     for length in 0..text.len() {
