@@ -6,6 +6,7 @@ mod costs;
 mod excess;
 mod growth;
 mod matching;
+mod opposed;
 mod prices;
 mod raise;
 mod standing;

@@ -3,6 +3,7 @@
 use crate::costs::Costs;
 use crate::excess::{Excess, Step, WHOLE, clique_excess, limit_excess};
 use crate::matching::{Assigned, Ranks, assign};
+use crate::opposed::cancel_opposed;
 use crate::prices::{Held, Prices};
 use crate::standing::{Standing, open_ranks, settled_load};
 use desk_base::NoMemory;
@@ -171,6 +172,7 @@ impl Raising<'_> {
         };
         of_limits.take(prices.limits.as_mut_slice(), excess.limits.as_slice());
         of_cliques.take(prices.cliques.as_mut_slice(), excess.cliques.as_slice());
+        cancel_opposed(self.load.limits.as_slice(), prices.limits.as_mut_slice());
         Ok(true)
     }
 

@@ -222,7 +222,9 @@ impl<'a> Finder<'a> {
             }
         }
         if let Some((_, path)) = &self.met.nearest {
-            return self.ground.reached(choice, self.ticks, path);
+            if let Some(found) = self.ground.reached(choice, self.ticks, path)? {
+                return Ok(Some(found));
+            }
         }
         match &self.met.broken {
             Some(path) => self.ground.mended(choice, self.ticks, path),
