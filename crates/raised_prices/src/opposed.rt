@@ -16,8 +16,8 @@ fn lower_both(prices: &mut [i64], one: usize, other: usize) {
     }
 }
 
-/// Takes from the prices of opposed limits that follow each other what they have in common. It changes no cost, and what the
-/// limits are worth is less by it, so that the value is greater.
+/// Takes from the prices of opposed limits that follow each other what they have in common. No cost changes by it, and
+/// what the limits are worth gets less, so that the value grows.
 pub fn cancel_opposed(limits: &[Limit], prices: &mut [i64]) {
     for later in 1..limits.len() {
         let earlier = later - 1;

@@ -12,7 +12,6 @@ mod finder;
 mod ground;
 mod ledger;
 mod loads;
-mod met;
 mod narrowing;
 mod opening;
 mod showing;
