@@ -1,8 +1,7 @@
 pub mod PathLemmas
 pub mod LineLemmas
 pub mod StartLemmas
-pub mod EvidenceLemmas
-pub mod FaultLemmas
+pub mod AfterStart
+pub mod EvidenceParts
 pub mod ReadLemmas
 pub mod WriterLemmas
-pub mod AnswerLemmas

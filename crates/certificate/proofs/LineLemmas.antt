@@ -5,7 +5,7 @@ use Rattle.mass_units.specs.Spelling.{number_text}
 use Rattle.mass_units.proofs.SpellingLemmas.{number_text-avoids, number_text-injective}
 use Rattle.hold_parts.specs.declared.parts.Position.{Position}
 use Rattle.text_lines.specs.Cuts.{Avoids}
-use Rattle.text_lines.proofs.RunOfLines.{Stops}
+use Rattle.text_lines.proofs.Rests.{HasOther}
 use Rattle.text_lines.proofs.WordLemmas.{avoids-append, plain_word}
 use Rattle.text_lines.specs.WordRuns.{run_text, name_text}
 use Rattle.certificate.specs.CertificateText.{path_line, claim_line, cut_line, expanded_line, IsSpelledPath, IsSpelledClaim}
@@ -56,8 +56,11 @@ pub expanded_once : (a b : ℕ) → expanded_line a ≡ expanded_line b → a �
 expanded_once a b e = number_text-injective a b (append_cancel_left (codes "expanded ") _ _ e)
 
 -- no cut is on such a line
-pub stops_cuts : (ps : List Position) (n : ℕ) (lines : List (List ℕ)) → Stops (cut_line ps) (IsSpelledPath ps) (expanded_line n ∷ lines)
+pub cuts_end : (ps : List Position) (n : ℕ) (lines : List (List ℕ)) → HasOther (cut_line ps) (IsSpelledPath ps) (expanded_line n ∷ lines)
 unfolding first
-stops_cuts ps n lines = λ cut more s e.
-    let same : expanded_line n ≡ cut_line ps cut = cc in
-    first_differ (codes "cut") (expanded_line n) ps cut (λ f. absurd (omega (arith, f))) (sym same)
+cuts_end ps n lines = record {
+  first = expanded_line n;
+  more = lines;
+  are = refl;
+  other = λ cut s e. first_differ (codes "cut") (expanded_line n) ps cut (λ f. absurd (omega (arith, f))) (sym e);
+}

@@ -16,53 +16,12 @@ use Rattle.text_lines.specs.WordRuns.{run_text, name_text}
 use Rattle.text_lines.specs.Names.{IsNamed}
 use Rattle.text_lines.proofs.CutLemmas.{cut_once}
 use Rattle.text_lines.proofs.WordLemmas.{avoids-append}
+pub use Rattle.text_lines.proofs.NameRuns.{AreClear, AreNames, clear_names, names_are_read, names_begin, names_avoid, line_of-names as path_line-is}
 use Rattle.text_lines.proofs.NameLemmas.{name_at-avoids, named_once}
 use Rattle.text_lines.proofs.RunLemmas.{AreRead, run_text-begins, run_text-push, run_again, no_more, run_once}
 use Rattle.certificate.specs.CertificateText.{path_line, IsSpelledPath}
 
--- ---- names contain neither a space nor the end of a line
-
-letter_avoids : (k c : ℕ) → k < 45 → IsCapitalOrDigit c → eqb c k ≡ false
-letter_avoids k c low h =
-    ⊎_elim (λ (a : IsCapital c). ne_eqb c k (λ e. omega arith)) (λ (b : IsDigit c). ne_eqb c k (λ e. omega arith)) h
-
-name_avoids : (k : ℕ) (name : List ℕ) → k < 45 → IsName name → Avoids k name
-name_avoids k name low h = All-weaker IsCapitalOrDigit (λ b. eqb b k ≡ false) (λ c g. letter_avoids k c low g) name h.letters
-
--- the names of the positions do not contain the byte
-abbrev pub AreClear : ℕ → List Position → Type 0
-AreClear k ps = All (λ (q : Position). Avoids k q.name) ps
-
-abbrev pub AreNames : List Position → Type 0
-AreNames ps = All (λ (q : Position). IsName q.name) ps
-
-pub clear_names : (k : ℕ) (ps : List Position) → k < 45 → AreNames ps → AreClear k ps
-clear_names k ps low names = All-weaker (λ (q : Position). IsName q.name) (λ (q : Position). Avoids k q.name) (λ q h. name_avoids k q.name low h) ps names
-
 -- ---- a line of a word and names
-
-pub names_are_read : (ps : List Position) → AreClear 32 ps → AreRead (name_text ps) (IsNamed ps)
-names_are_read ps clear = record {
-  some = λ q. omega arith;
-  begins = λ q rest. refl;
-  once = λ p q rest rest' s t cut cut' e.
-      let names : name_at ps p ++ rest ≡ name_at ps q ++ rest' = cc in
-      let parts = cut_once 32 (name_at ps p) rest (name_at ps q) rest' (name_at-avoids 32 ps p clear s.known) (name_at-avoids 32 ps q clear t.known) cut cut' names in
-      (named_once ps p q s t parts.0, parts.1);
-}
-
-pub names_begin : (ps : List Position) → AreClear 32 ps → (path : List ℕ) → IsCutAt 32 (run_text (name_text ps) path)
-names_begin ps clear path = run_text-begins (name_text ps) (IsNamed ps) (names_are_read ps clear) path
-
-pub path_line-is : (word : List ℕ) (ps : List Position) (path : List ℕ) → path_line word ps path ≡ word ++ run_text (name_text ps) path
-path_line-is word ps [] = sym (append-nil word)
-path_line-is word ps (q ∷ path) = ap (λ t. word ++ 32 ∷ t) (path_line-is (name_at ps q) ps path)
-
-pub names_avoid : (ps : List Position) (path : List ℕ) → AreClear 10 ps → All (IsNamed ps) path → Avoids 10 (run_text (name_text ps) path)
-names_avoid ps [] clear named = All-nil (λ b. eqb b 10 ≡ false)
-names_avoid ps (q ∷ path) clear named =
-    let here = All-head (IsNamed ps) q path named in
-    avoids-append 10 (name_text ps q) (run_text (name_text ps) path) (All-cons (λ b. eqb b 10 ≡ false) 32 (name_at ps q) refl (name_at-avoids 10 ps q clear here.known)) (names_avoid ps path clear (All-tail (IsNamed ps) q path named))
 
 pub path_avoids : (word : List ℕ) (ps : List Position) → Avoids 10 word → AreClear 10 ps → (path : List ℕ) → IsSpelledPath ps path → Avoids 10 (path_line word ps path)
 path_avoids word ps plain clear path s =

@@ -11,6 +11,7 @@ use Rattle.hold_limits.specs.Layout.{name_at}
 use Rattle.text_lines.specs.Lines.{text_of}
 use Rattle.text_lines.specs.Names.{IsNamed}
 use Rattle.text_lines.proofs.SectionLemmas.{text_of-append}
+pub use Rattle.text_lines.proofs.NameRuns.{first_named}
 use Rattle.certificate.specs.Evidence.{claimed, paths_of}
 use Rattle.certificate.specs.Starts.{IsEarlier}
 use Rattle.certificate.specs.CertificateText.{start_line, claim_line, cut_line, expanded_line, certificate_text, IsSpelledPath, IsSpelledClaim, IsSpelledNumber, AreFewCuts, Spells}
@@ -51,18 +52,6 @@ text_built ps c start n1 n2 n3 n4 n5 e1 e2 e3 e4 e5 =
     t5 ∙ ap (λ lines. start ++ text_of lines) (append_assoc (first ++ cuts) last end ∙ append_assoc first cuts (last ++ end))
 
 -- ---- a written certificate is spelled
-
--- where no two positions have one name, each is the first of its name
-pub first_named : (ps : List Position) → AllPairs (λ (a b : Position). a.name ≢ b.name) ps → (q : ℕ) → q < length ps → IsNamed ps q
-first_named ps differ q known = record {
-  known = known;
-  first = λ k d within same.
-      let before : k < q = omega (arith, length-take q ps) in
-      let there : slice_get ps q ≡ Some (get_or ps q d) = slice_get-get_or ps q d known in
-      let name : name_at ps q ≡ (get_or ps q d).name = ap (λ o. option_map_or (λ (p : Position). p.name) o []) there in
-      let earlier : get_or (take q ps) k d ≡ get_or ps k d = get_or-take q ps k d before in
-      differ k q d before known (sym (ap (λ (p : Position). p.name) earlier) ∙ same ∙ name);
-}
 
 abbrev AreKnown : List Position → List ℕ → Type 0
 AreKnown ps path = All (λ q. q < length ps) path

@@ -5,7 +5,7 @@ use Rattle.hold_parts.specs.declared.parts.Position.{Position}
 use Rattle.hold_limits.specs.Layout.{name_at}
 use Rattle.text_lines.specs.Lines.{line_of, text_of}
 use Rattle.text_lines.specs.Names.{IsNamed}
-use Rattle.certificate.specs.Starts.{StartsAfter}
+use Rattle.certificate.specs.Starts.{StatesAfter}
 use Rattle.certificate.specs.Evidence.{claimed}
 use Rattle.certificate.specs.declared.parts.Claim.{Claim}
 use Rattle.certificate.specs.declared.parts.Claim.TheVariants.{Best, NoneFits}
@@ -72,7 +72,5 @@ pub record IsSpelled (positions : List Position) (c : Certificate) : Type 0 wher
 -- The text --------------------------------------------------------------------------------------
 
 -- the text spells the certificate: its lines are the last ones of the text, and each part of it can be spelled
-pub record Spells (positions : List Position) (text : List ℕ) (c : Certificate) : Type 0 where
-  pub before : List (List ℕ)
-  pub starts : StartsAfter start_line before text (text_of (evidence_lines positions c))
-  pub spelled : IsSpelled positions c
+abbrev pub Spells : List Position → List ℕ → Certificate → Type 0
+Spells positions = StatesAfter start_line (IsSpelled positions) (evidence_lines positions)

@@ -14,6 +14,12 @@ module _ (start : List ℕ) where
     pub earlier : All IsEarlier before
     pub is : text ≡ text_of before ++ (start ++ 10 ∷ rest)
 
+  -- the text states this: its lines are the last ones of the text, behind the first line that is the start
+  pub record StatesAfter {V : Type 0} (IsSpelled : V → Type 0) (lines_of : V → List (List ℕ)) (text : List ℕ) (said : V) : Type 0 where
+    pub before : List (List ℕ)
+    pub starts : StartsAfter before text (text_of (lines_of said))
+    pub spelled : IsSpelled said
+
   -- no line of the text is the start; a last piece without an LF is no line
   pub record HasNoStart (text : List ℕ) : Type 0 where
     pub lines : List (List ℕ)

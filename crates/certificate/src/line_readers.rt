@@ -3,11 +3,11 @@
 ghost use Rattle.std.specs.Prelude.{◌≡◌, ◌≢◌, ℕ, ◌+◌, ◌≤◌, List, ◌∷◌, ◌++◌, OnOk, IfOk, IfErr, IfSome, IfNone};
 ghost use Rattle.text_lines.specs.Cuts.{Avoids, IsCutAt};
 ghost use Rattle.text_lines.specs.Lines.{IsStopped};
-ghost use Rattle.text_lines.specs.Sections.{HasNoneAhead};
+ghost use Rattle.text_lines.specs.Sections.{ArePart};
 ghost use Rattle.text_lines.specs.WordRuns.{run_text, name_text};
 ghost use Rattle.certificate.specs.Evidence.{paths_of};
-ghost use Rattle.certificate.specs.CertificateText.{path_line, claim_line, cut_line, expanded_line, IsSpelledPath, IsSpelledClaim, IsSpelledNumber};
-ghost use Rattle.certificate.specs.Reading.{IsClaimLine, IsExpandedLine, AreCuts};
+ghost use Rattle.certificate.specs.CertificateText.{path_line, claim_line, cut_line, expanded_line, IsSpelledPath, IsSpelledClaim, IsSpelledNumber, AreFewCuts};
+ghost use Rattle.certificate.specs.Reading.{IsClaimLine, IsExpandedLine};
 
 use crate::name_table::NameTable;
 use crate::parts::Claim;
@@ -89,18 +89,6 @@ pub fn next_claim(names: &NameTable<'_>, lines: &mut Lines<'_>) -> Result<Claim,
     read_claim(names, lines.next_line()?).ok_or(LineFault::Line(number))
 }
 
-/// The cut on the next line, and the lines after it. None where there is no such line.
-fn next_cut<'a>(names: &NameTable<'_>, lines: &Lines<'a>) -> Option<(Path, Lines<'a>)>
-    ensures found { IfSome result (λ x. IsSpelledPath names.now.positions.now x.0.items
-        × (lines.now.rest.now ≡ cut_line names.now.positions.now x.0.items ++ 10 ∷ x.1.rest.now)) }
-    ensures counted { IfSome result (λ x. x.1.number ≡ lines.now.number + 1) }
-    ensures none { IfNone result (HasNoneAhead (cut_line names.now.positions.now)
-        (IsSpelledPath names.now.positions.now) lines.now.rest.now) }
-{
-    let (line, after) = lines.split_first()?;
-    Some((read_path(names, b"cut", line)?, after))
-}
-
 /// How many lines the text has, or the most cuts where these are fewer.
 fn room_for_cuts(text: &[u8]) -> usize
     ensures { result ≤ 3200000 }
@@ -115,12 +103,15 @@ pub fn next_cuts(
     names: &NameTable<'_>,
     lines: &mut Lines<'_>,
 ) -> Result<Vec<Path>, NoMemory>
-    ensures { IfOk result (λ got. AreCuts names.now.positions.now lines.old.rest.now lines.new.rest.now
-        lines.old.number lines.new.number (paths_of got.items)) }
+    ensures { IfOk result (λ got. ArePart (cut_line names.now.positions.now) (IsSpelledPath names.now.positions.now) AreFewCuts
+        lines.old.rest.now lines.new.rest.now lines.old.number lines.new.number (paths_of got.items)) }
 {
     let mut cuts = Vec::with_capacity(alloc, room_for_cuts(lines.rest))?;
     while cuts.len() < MOST_CUTS {
-        let Some((cut, after)) = next_cut(names, lines) else {
+        let Some((line, after)) = lines.split_first() else {
+            return Ok(cuts);
+        };
+        let Some(cut) = read_path(names, b"cut", line) else {
             return Ok(cuts);
         };
         cuts.push(cut)?;

@@ -34,7 +34,19 @@ pub fn read_certificate(alloc: Global, task: &Task, text: &[u8]) -> Result<Certi
     ensures complete { (c : Certificate) → Spells task.now.hold.positions text.now c
         → MatchResult result (λ got. got ≡ c) (λ fault. fault ≡ CertFault.NoMemory) }
 {
-    let positions = task.hold().named_positions();
+    read_over(alloc, task.hold().named_positions(), text)
+}
+
+/// The same, over the positions of a lawful hold.
+fn read_over(alloc: Global, positions: &[Position], text: &[u8]) -> Result<Certificate, CertFault>
+    requires few { length positions.now ≤ 64 }
+    requires named { All (λ (q : Position). IsName q.name) positions.now }
+    requires differ { AllPairs (λ (a b : Position). a.name ≢ b.name) positions.now }
+    ensures read { IfOk result (Spells positions.now text.now) }
+    ensures refused { IfErr result (IsRefused positions.now text.now) }
+    ensures complete { (c : Certificate) → Spells positions.now text.now c
+        → MatchResult result (λ got. got ≡ c) (λ fault. fault ≡ CertFault.NoMemory) }
+{
     let Some(mut lines) = after_start(text, START) else {
         return Err(CertFault::NoStart);
     };
@@ -71,8 +83,22 @@ fn read_evidence(
     ensures refused { IfErr result (Fails (AreEvidence positions.now) lines.old.rest.now lines.old.number) }
 {
     let names = NameTable::new(alloc, positions)?;
-    let claim = next_claim(&names, lines)?;
-    let cuts = next_cuts(alloc, &names, lines)?;
+    read_lines(alloc, &names, lines)
+}
+
+/// The same, with the positions by their names.
+fn read_lines(
+    alloc: Global,
+    names: &NameTable<'_>,
+    lines: &mut Lines<'_>,
+) -> Result<Certificate, LineFault>
+    requires { All (λ (q : Position). IsName q.name) names.now.positions.now }
+    ensures read { IfOk result (λ c. IsSpelled names.now.positions.now c
+        × (lines.old.rest.now ≡ text_of (evidence_lines names.now.positions.now c))) }
+    ensures refused { IfErr result (Fails (AreEvidence names.now.positions.now) lines.old.rest.now lines.old.number) }
+{
+    let claim = next_claim(names, lines)?;
+    let cuts = next_cuts(alloc, names, lines)?;
     let expanded = next_expanded(lines)?;
     expect_line(b"END", lines)?;
     if !lines.rest.is_empty() {

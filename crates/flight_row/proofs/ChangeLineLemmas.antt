@@ -16,7 +16,8 @@ use Rattle.flight_row.specs.Words.{words_in}
 use Rattle.flight_row.specs.RowText.{change_line}
 use Rattle.flight_row.specs.Spelled.{IsSpelledChange}
 use Rattle.flight_row.proofs.WordLemmas.{line_of-words, words-line_of, line-avoids}
-use Rattle.flight_row.proofs.LineLemmas.{AreClear, name_avoids}
+use Rattle.text_lines.proofs.SpelledWords.{name_avoids}
+use Rattle.flight_row.proofs.LineLemmas.{AreClear}
 
 abbrev Words : Type 0
 Words = List (List ℕ)

@@ -11,6 +11,7 @@ use Rattle.hold_parts.specs.declared.parts.Item.{Item}
 use Rattle.payload.specs.declared.figures.ZoneCount.{ZoneCount}
 use Rattle.text_lines.specs.Cuts.{Avoids}
 use Rattle.text_lines.proofs.WordLemmas.{plain_word}
+use Rattle.text_lines.proofs.SpelledWords.{name_avoids, id_avoids}
 use Rattle.trim.specs.declared.figures.Dry.{Dry}
 use Rattle.trim.specs.declared.figures.Fuel.{Fuel}
 use Rattle.trim.specs.declared.figures.Regulated.{Regulated}
@@ -27,34 +28,6 @@ Words = List (List ℕ)
 
 abbrev pub AreClear : ℕ → Words → Type 0
 AreClear k ws = All (Avoids k) ws
-
--- names and identities have letters and digits alone
-capital_avoids : (k c : ℕ) → k < 45 → IsCapital c → eqb c k ≡ false
-capital_avoids k c low h = ne_eqb c k (λ e. omega arith)
-
-digit_avoids : (k c : ℕ) → k < 45 → IsDigit c → eqb c k ≡ false
-digit_avoids k c low h = ne_eqb c k (λ e. omega arith)
-
-letter_avoids : (k c : ℕ) → k < 45 → IsCapitalOrDigit c → eqb c k ≡ false
-letter_avoids k c low h = ⊎_elim (λ (a : IsCapital c). capital_avoids k c low a) (λ (b : IsDigit c). digit_avoids k c low b) h
-
-pub name_avoids : (k : ℕ) (name : List ℕ) → k < 45 → IsName name → Avoids k name
-name_avoids k name low h = All-weaker IsCapitalOrDigit (λ b. eqb b k ≡ false) (λ c g. letter_avoids k c low g) name h.letters
-
-in_three : (text : List ℕ) (a b : ℕ) → a ≤ b → text ≡ take a text ++ (slice_range text a b ++ drop b text)
-in_three text a b le =
-    let back : drop b text ≡ drop (b - a) (drop a text) = let at : a + (b - a) ≡ b = omega arith in sym (drop-drop (b - a) a text ∙ ap (λ n. drop n text) at) in
-    let rest : slice_range text a b ++ drop b text ≡ drop a text = rw back (take-append-drop (b - a) (drop a text)) in
-    sym (ap (λ xs. take a text ++ xs) rest ∙ take-append-drop a text)
-
-id_avoids : (k : ℕ) (id : List ℕ) → k < 45 → IsUldId id → Avoids k id
-id_avoids k id low h =
-    let P : ℕ → Type 0 = λ b. eqb b k ≡ false in
-    let kind = All-weaker IsCapital P (λ c g. capital_avoids k c low g) (take 3 id) h.kind in
-    let serial = All-weaker IsDigit P (λ c g. digit_avoids k c low g) (slice_range id 3 (length id - 2)) h.serial in
-    let owner = All-weaker IsCapitalOrDigit P (λ c g. letter_avoids k c low g) (drop (length id - 2) id) h.owner in
-    let short : 9 ≤ length id = h.short in
-    All-same P id (take 3 id ++ (slice_range id 3 (length id - 2) ++ drop (length id - 2) id)) (in_three id 3 (length id - 2) (omega arith)) (All-append P (take 3 id) (slice_range id 3 (length id - 2) ++ drop (length id - 2) id) kind (All-append P (slice_range id 3 (length id - 2)) (drop (length id - 2) id) serial owner))
 
 -- the lines of a keyword and words ------------------------------------------------------------------
 

@@ -6,33 +6,12 @@ use Rattle.text_lines.specs.Cuts.{Avoids}
 use Rattle.text_lines.specs.Grammar.{HasRun, Fails}
 use Rattle.text_lines.specs.declared.fault.LineFault.{LineFault}
 use Rattle.text_lines.proofs.RunOfLines.{Stops}
-use Rattle.text_lines.proofs.GrammarLemmas.{HasFirst, IsStep, fails_earlier}
-use Rattle.flight_row.specs.Reading.{ArePart}
+use Rattle.text_lines.proofs.GrammarLemmas.{IsStep, fails_earlier}
+use Rattle.text_lines.proofs.RunsOfLines.{StopsWith, part_once}
+use Rattle.text_lines.specs.Sections.{ArePart}
 
 abbrev Lines : Type 0
 Lines = List (List ℕ)
-
--- no entry comes next that would be allowed with these
-abbrev StopsWith : {X : Type 0} → (X → List ℕ) → (X → Type 0) → (List X → Type 0) → List X → Lines → Type 0
-StopsWith {X} line IsRight AreAllowed got lines = (x : X) (more : Lines) → IsRight x → AreAllowed (got ++ x ∷ []) → lines ≡ line x ∷ more → ⊥
-
--- a part is read in one way only; the entries that both begin with stand before
-part_once : {X : Type 0} (line : X → List ℕ) (P : X → Type 0) (Fit : List X → Type 0) → ((xs ys : List X) → Fit (xs ++ ys) → Fit xs) → ((x y : X) → P x → P y → line x ≡ line y → x ≡ y)
-    → (done xs ys : List X) (lines other : Lines) → All P xs → All P ys → Fit (done ++ ys) → StopsWith line P Fit (done ++ xs) lines → Stops line P other → map line xs ++ lines ≡ map line ys ++ other → (xs ≡ ys) × (lines ≡ other)
-part_once line P Fit front once done [] [] lines other p q fit stop stop' e = (refl, e)
-part_once line P Fit front once done [] (y ∷ ys) lines other p q fit stop stop' e =
-    let whole : (done ++ y ∷ []) ++ ys ≡ done ++ y ∷ ys = append_assoc done (y ∷ []) ys in
-    let here : Fit (done ++ y ∷ []) = front (done ++ y ∷ []) ys (subst Fit (sym whole) fit) in
-    absurd (stop y (map line ys ++ other) (All-head P y ys q) (subst (λ zs. Fit (zs ++ y ∷ [])) (sym (append-nil done)) here) e)
-part_once line P Fit front once done (x ∷ xs) [] lines other p q fit stop stop' e = absurd (stop' x (map line xs ++ lines) (All-head P x xs p) (sym e))
-part_once {X} line P Fit front once done (x ∷ xs) (y ∷ ys) lines other p q fit stop stop' e =
-    let first : line x ≡ line y = cc in
-    let tails : map line xs ++ lines ≡ map line ys ++ other = cc in
-    let same : x ≡ y = once x y (All-head P x xs p) (All-head P y ys q) first in
-    let fit' : Fit ((done ++ x ∷ []) ++ ys) = subst Fit (sym (append_assoc done (x ∷ []) ys)) (subst (λ z. Fit (done ++ z ∷ ys)) (sym same) fit) in
-    let At : List X → Type 0 = λ zs. StopsWith line P Fit zs lines in
-    let again = part_once line P Fit front once (done ++ x ∷ []) xs ys lines other (All-tail P x xs p) (All-tail P y ys q) fit' (subst At (sym (append_assoc done (x ∷ []) xs)) stop) stop' tails in
-    (λ i. same i ∷ again.0 i, again.1)
 
 -- a kind of line that is read in one way only, whose entries are allowed as far as all are, and that no line of what follows is of
 pub record IsReadOnce {X : Type 0} (line : X → List ℕ) (IsRight : X → Type 0) (AreAllowed : List X → Type 0) (Follows : List X → Lines → Type 0) : Type 0 where

@@ -1,4 +1,4 @@
--- a part of a text, line by line
+-- late changes, line by line
 use Rattle.std.proofs.Common.{◌≡◌, ℕ, ◌+◌, ◌<◌, ◌≤◌, Bool, true, false, ◌&&◌, ◌∷◌, ◌++◌, List, [], length, map, refl, sym, ◌∙◌, ap, subst, arith, All}
 use Rattle.std.proofs.lemmas.Bool.{true≢false, and_parts, and_from}
 use Rattle.std.proofs.lemmas.List.{length-append, append-nil}
@@ -15,73 +15,10 @@ use Rattle.flight_state.specs.declared.state.Stage.TheVariants.{Working, Planned
 use Rattle.flight_state.specs.declared.state.Stage.{Stage}
 use Rattle.flight_row.specs.RowText.{change_line}
 use Rattle.flight_row.specs.Spelled.{IsSpelledChange, AreSpelledChanges}
-use Rattle.flight_row.specs.Reading.{ArePart}
+use Rattle.text_lines.specs.Sections.{ArePart}
 use Rattle.flight_row.proofs.ChangeLineLemmas.{change_once}
 use Rattle.flight_row.proofs.RestLemmas.{no_changes}
-
--- these entries were read
-pub record AreRead {X : Type 0} (line : X → List ℕ) (IsRight : X → Type 0) (before after : List ℕ) (number next : ℕ) (got : List X) : Type 0 where
-  pub right : All IsRight got
-  pub read : before ≡ text_of (map line got) ++ after
-  pub counted : next ≡ number + length got
-
-pub none_read : {X : Type 0} (line : X → List ℕ) (P : X → Type 0) (text : List ℕ) (number : ℕ) → AreRead line P text text number number []
-none_read line P text number = record { right = All-nil P; read = refl; counted = omega arith }
-
-pub one_more : {X : Type 0} (line : X → List ℕ) (P : X → Type 0) (before rest after text : List ℕ) (number at next : ℕ) (got new : List X) (x : X) → AreRead line P before rest number at got → P x → text ≡ line x → rest ≡ text ++ 10 ∷ after → next ≡ at + 1 → new ≡ got ++ x ∷ [] → AreRead line P before after number next new
-one_more line P before rest after text number at next got new x so right is e counted grew =
-    let long = length-append got (x ∷ []) in
-    let old = so.counted in
-    let more : AreRead line P before after number next (got ++ x ∷ []) = record {
-      right = All-push P got x so.right right;
-      read = so.read ∙ ap (λ t. text_of (map line got) ++ t) (e ∙ ap (λ t. t ++ 10 ∷ after) is) ∙ sym (text_of-push line got x after);
-      counted = omega (arith, long, old, counted);
-    } in
-    subst (AreRead line P before after number next) (sym grew) more
-
--- what a line of the kind says, of which the reader keeps all
-pub kept_whole : {X : Type 0} (line : X → List ℕ) (P : X → Type 0) (keep : X → X) (text : List ℕ) (got : X) → ((x : X) → keep x ≡ x) → Says line P keep text got → P got × (text ≡ line got)
-kept_whole line P keep text got whole says =
-    let same = says.kept ∙ whole says.said in
-    (subst P (sym same) says.right, says.is ∙ ap line (sym same))
-
--- the next line is the only one that the text begins with
-pub same_line : (text line after other rest : List ℕ) → text ≡ line ++ 10 ∷ after → Avoids 10 line → Avoids 10 other → text ≡ other ++ 10 ∷ rest → line ≡ other
-same_line text line after other rest e clear clear' g = (split_once_again 10 line after other rest clear clear' (sym e ∙ g)).0
-
--- where the reader stops: there is no line, it is of another kind, or there are as many entries as there may be
-
-pub no_line : {X : Type 0} (line : X → List ℕ) (P : X → Type 0) (Fit : List X → Type 0) (before after : List ℕ) (number next : ℕ) (got : List X) → AreRead line P before after number next got → Fit got → Avoids 10 after → ArePart line P Fit before after number next got
-no_line line P Fit before after number next got so fit clear = record {
-  right = so.right;
-  allowed = fit;
-  read = so.read;
-  counted = so.counted;
-  stops = λ x rest right avoids fits e. has_mark 10 (line x) rest (subst (Avoids 10) e clear);
-}
-
-pub other_line : {X : Type 0} (line : X → List ℕ) (P : X → Type 0) (Fit : List X → Type 0) (before after : List ℕ) (number next : ℕ) (got : List X) (text rest : List ℕ) → AreRead line P before after number next got → Fit got → after ≡ text ++ 10 ∷ rest → Avoids 10 text → ((x : X) → P x → Fit (got ++ x ∷ []) → text ≡ line x → ⊥) → ArePart line P Fit before after number next got
-other_line line P Fit before after number next got text rest so fit is clear none = record {
-  right = so.right;
-  allowed = fit;
-  read = so.read;
-  counted = so.counted;
-  stops = λ x other right avoids fits e. none x right fits (same_line after text rest (line x) other is clear avoids e);
-}
-
-pub all_read : {X : Type 0} (line : X → List ℕ) (P : X → Type 0) (Fit : List X → Type 0) (before after : List ℕ) (number next : ℕ) (got : List X) → AreRead line P before after number next got → Fit got → ((x : X) → Fit (got ++ x ∷ []) → ⊥) → ArePart line P Fit before after number next got
-all_read line P Fit before after number next got so fit full = record {
-  right = so.right;
-  allowed = fit;
-  read = so.read;
-  counted = so.counted;
-  stops = λ x rest right avoids fits e. full x fits;
-}
-
-pub too_long : {X : Type 0} (most : ℕ) (got : List X) → most ≤ length got → (x : X) → length (got ++ x ∷ []) ≤ most → ⊥
-too_long most got full x few = let long = length-append got (x ∷ []) in absurd (omega (arith, long, full, few))
-
--- Late changes ---------------------------------------------------------------------------------------
+use Rattle.text_lines.proofs.PartSteps.{too_long}
 
 pub with_changes-push : (f : Figures) (xs : List Lmc) (x : Lmc) → with_changes f (xs ++ x ∷ []) ≡ with_change (with_changes f xs) x
 with_changes-push f [] x = refl

@@ -15,6 +15,7 @@ use Rattle.hold_limits.proofs.FaultLemmas.{position-none}
 use Rattle.hold_limits.proofs.LawfulBounds.{hold-bounds}
 use Rattle.text_lines.specs.Names.{IsNamed}
 use Rattle.text_lines.proofs.NameLemmas.{some_position, name_at-is, named_once}
+use Rattle.text_lines.proofs.NameRuns.{first_named}
 use Rattle.text_lines.proofs.SectionLemmas.{map-push}
 use Rattle.aircraft_file.specs.Craft.{Craft}
 use Rattle.aircraft_file.specs.Lawful.{IsLawfulCraft}
@@ -45,18 +46,6 @@ AreDifferent ps = AllPairs (λ (a b : Position). a.name ≢ b.name) ps
 
 pub names_differ : (a : Craft) → IsLawfulCraft a → AreDifferent a.hold.positions
 names_differ a lawful = (hold-bounds a.hold lawful.hold).names
-
--- where no two positions have one name, each is the first of its name
-first_named : (ps : List Position) → AreDifferent ps → (q : ℕ) → q < length ps → IsNamed ps q
-first_named ps differ q known = record {
-  known = known;
-  first = λ k d within same.
-      let before : k < q = omega (arith, length-take q ps) in
-      let there : slice_get ps q ≡ Some (get_or ps q d) = slice_get-get_or ps q d known in
-      let name : name_at ps q ≡ (get_or ps q d).name = ap (λ o. option_map_or (λ (p : Position). p.name) o []) there in
-      let earlier : get_or (take q ps) k d ≡ get_or ps k d = get_or-take q ps k d before in
-      differ k q d before known (sym (ap (λ (p : Position). p.name) earlier) ∙ same ∙ name);
-}
 
 path_once : (ps : List Position) → AreDifferent ps → (p q : List ℕ) → All (λ x. x < length ps) p → All (λ x. x < length ps) q → map (name_at ps) p ≡ map (name_at ps) q → p ≡ q
 path_once ps differ [] [] known other e = refl

@@ -77,6 +77,3 @@ front_changes f stage xs ys s = record {
   can_be_made = front_made f xs ys s.can_be_made;
   for_stage = front_for stage xs ys s.for_stage;
 }
-
-pub front_few : {X : Type 0} (most : ℕ) (xs ys : List X) → length (xs ++ ys) ≤ most → length xs ≤ most
-front_few most xs ys few = omega (arith, few, length-append xs ys)

@@ -4,8 +4,8 @@ use Rattle.std.proofs.lemmas.List.{append_assoc}
 use Rattle.std.proofs.lemmas.List.Elements.{All-nil, All-cons, All-head}
 use Rattle.hold_parts.specs.declared.parts.Item.{Item}
 use Rattle.payload.specs.declared.figures.ZoneCount.{ZoneCount}
-use Rattle.text_lines.specs.Grammar.{HasOne, HasRun, Begins, Fails}
-use Rattle.text_lines.specs.Grammar.Fails.{wrong_line, more_bytes, early_end, no_memory}
+use Rattle.text_lines.specs.Grammar.{Fails}
+use Rattle.text_lines.proofs.GrammarLemmas.{fails_same}
 use Rattle.text_lines.specs.declared.fault.LineFault.{LineFault}
 use Rattle.trim.specs.Limits.{HasFewPassengers}
 use Rattle.trim.specs.declared.figures.LooseFigure.{LooseFigure}
@@ -260,8 +260,7 @@ said_row lines v =
     let at_leg : leg.more ≡ edition_line edition.said ∷ stage_line stage.said ∷ (R ++ (F ++ rest_lines rest.plan rest.changes)) = edition.are ∙ ap (λ (more : Lines). edition_line edition.said ∷ more) at_edition in
     let at_version : v.more ≡ leg_line leg.said ∷ edition_line edition.said ∷ stage_line stage.said ∷ (R ++ (F ++ rest_lines rest.plan rest.changes)) = leg.are ∙ ap (λ (more : Lines). leg_line leg.said ∷ more) at_leg in
     record {
-      version = version;
-      row = row;
+      said = (version, row);
       spelled = record {
         leg = leg.right;
         edition = edition.right;
@@ -276,18 +275,9 @@ said_row lines v =
     }
 
 pub row_back : (lines : Lines) → AreRow lines → FromVersion lines
-row_back lines a = subst FromVersion (sym a.are) (row_says a.version a.row a.spelled)
+row_back lines a = subst FromVersion (sym a.are) (row_says a.said.0 a.said.1 a.spelled)
 
 -- Faults -------------------------------------------------------------------------------------------
 
-begin_row : (done : Lines) → Begins FromVersion done → Begins AreRow done
-begin_row done b = record { more = b.more; kind = said_row (done ++ b.more) b.kind }
-
-begin_back : (done : Lines) → Begins AreRow done → Begins FromVersion done
-begin_back done b = record { more = b.more; kind = row_back (done ++ b.more) b.kind }
-
 pub fails_row : (text : List ℕ) (number : ℕ) (fault : LineFault) → Fails FromVersion text number fault → Fails AreRow text number fault
-fails_row text number _ (wrong_line done line after e clear b none) = wrong_line done line after e clear (begin_row done b) (λ more. none (begin_back (done ++ line ∷ []) more))
-fails_row text number _ (more_bytes done byte after e all) = more_bytes done byte after e (said_row done all)
-fails_row text number _ (early_end done rest e clear b none) = early_end done rest e clear (begin_row done b) (λ a. none (row_back done a))
-fails_row text number _ no_memory = no_memory
+fails_row = fails_same said_row row_back

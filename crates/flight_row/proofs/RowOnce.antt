@@ -6,14 +6,15 @@ use Rattle.std.proofs.lemmas.List.Elements.{All-head, All-tail, All-nil, All-con
 use Rattle.hold_parts.specs.declared.parts.Item.{Item}
 use Rattle.text_lines.specs.Cuts.{Avoids}
 use Rattle.text_lines.specs.Lines.{text_of}
-use Rattle.text_lines.specs.Grammar.{Begins, Fails}
-use Rattle.text_lines.specs.Grammar.Fails.{wrong_line, more_bytes, early_end, no_memory}
+use Rattle.text_lines.specs.Grammar.{Fails}
 use Rattle.text_lines.specs.declared.fault.LineFault.{LineFault}
 use Rattle.text_lines.specs.declared.fault.LineFault.TheVariants as fault
 use Rattle.text_lines.proofs.RunOfLines.{Stops, section_once}
-use Rattle.text_lines.proofs.CutLemmas.{has_mark}
 use Rattle.text_lines.proofs.WordLemmas.{plain_word}
-use Rattle.text_lines.proofs.TextCuts.{AreLines, joined, whole_goes_on, whole_once}
+use Rattle.text_lines.proofs.TextCuts.{AreLines}
+use Rattle.text_lines.proofs.Rests.{Rest}
+use Rattle.text_lines.proofs.OneReading.{IsReadOnce}
+use Rattle.text_lines.proofs.OneAnswer.{one_said, no_fault}
 use Rattle.trim.specs.Limits.{HasFewPassengers}
 use Rattle.trim.specs.declared.figures.LooseFigure.{LooseFigure}
 use Rattle.trim.specs.declared.figures.Figures.{Figures}
@@ -225,45 +226,19 @@ row_lines-are v r s =
     (one (leg_line r.leg) (edition_line r.edition ∷ stage_line r.stage ∷ behind) (leg_avoids r.leg s.leg)
     (one (edition_line r.edition) (stage_line r.stage ∷ behind) (edition_avoids r.edition) (one (stage_line r.stage) behind (stage_avoids r.stage) a4)))
 
-pub all_lines : (lines : Lines) → AreRow lines → AreLines lines
-all_lines lines a = All-same (Avoids 10) _ _ a.are (row_lines-are a.version a.row a.spelled)
-
-first_lines : (xs ys : Lines) → AreLines (xs ++ ys) → AreLines xs
-first_lines [] ys all = All-nil (Avoids 10)
-first_lines (x ∷ xs) ys all = All-cons (Avoids 10) x xs (All-head (Avoids 10) x (xs ++ ys) all) (first_lines xs ys (All-tail (Avoids 10) x (xs ++ ys) all))
-
-begin_lines : (done : Lines) → Begins AreRow done → AreLines done
-begin_lines done b = first_lines done b.more (all_lines (done ++ b.more) b.kind)
-
 -- One row, and no fault ------------------------------------------------------------------------------
 
+abbrev rows : Rest (Version × Row)
+rows = record { Is = λ said. IsSpelled said.0 said.1; lines = λ said. row_lines said.0 said.1 }
+
+is_read_once : IsReadOnce rows
+is_read_once = record {
+  once = λ r q more s t e. let same = row_once r.0 q.0 r.1 q.1 more s t e in ((λ i. (same.0 i, same.1 i)), same.2);
+  clear = λ r s. row_lines-are r.0 r.1 s;
+}
+
 pub spelled_once : (v w : Version) (text : List ℕ) (r q : Row) → Spells v text r → Spells w text q → r ≡ q
-spelled_once v w text r q s t =
-    let lines = whole_once (row_lines v r) (row_lines w q) (row_lines-are v r s.spelled) (row_lines-are w q t.spelled) (sym s.is ∙ t.is) in
-    (row_once v w r q [] s.spelled t.spelled (append-nil (row_lines v r) ∙ lines)).1
-
-ends_once : (done more : Lines) → AreRow done → AreRow (done ++ more) → more ≡ []
-ends_once done more a b = (row_once a.version b.version a.row b.row more a.spelled b.spelled (ap (λ (xs : Lines). xs ++ more) (sym a.are) ∙ b.are)).2
-
-empty_text : (zs : Lines) → Avoids 10 (text_of zs) → zs ≡ []
-empty_text [] clear = refl
-empty_text (z ∷ zs) clear = absurd (has_mark 10 z (text_of zs) clear)
-
-right_has_no_fault : (lines : Lines) (text : List ℕ) (number : ℕ) (f : LineFault) → AreRow lines → text ≡ text_of lines → Fails AreRow text number f → f ≡ fault.NoMemory
-right_has_no_fault lines text number _ a e (wrong_line done line after g clear b none) =
-    let more : AreLines (done ++ line ∷ []) = All-append (Avoids 10) done (line ∷ []) (begin_lines done b) (All-cons (Avoids 10) line [] clear (All-nil (Avoids 10))) in
-    let on = whole_goes_on lines (done ++ line ∷ []) after (all_lines lines a) more (sym e ∙ g ∙ sym (joined done line after)) in
-    absurd (none (record { more = on.0; kind = subst AreRow on.1 a }))
-right_has_no_fault lines text number _ a e (more_bytes done byte after g all) =
-    let on = whole_goes_on lines done (byte ∷ after) (all_lines lines a) (all_lines done all) (sym e ∙ g) in
-    let none = ends_once done on.0 all (subst AreRow on.1 a) in
-    let left : byte ∷ after ≡ [] = on.2 ∙ ap text_of none in
-    absurd (cc (left))
-right_has_no_fault lines text number _ a e (early_end done rest g clear b none) =
-    let on = whole_goes_on lines done rest (all_lines lines a) (begin_lines done b) (sym e ∙ g) in
-    let no = empty_text on.0 (All-same (λ b. eqb b 10 ≡ false) _ _ (sym on.2) clear) in
-    absurd (none (subst AreRow (on.1 ∙ ap (λ (zs : Lines). done ++ zs) no ∙ append-nil done) a))
-right_has_no_fault lines text number _ a e no_memory = refl
+spelled_once v w text r q s t = ap (λ (said : Version × Row). said.1) (one_said rows is_read_once text (v, r) (w, q) s.spelled t.spelled s.is t.is)
 
 pub spelled_has_no_fault : (v : Version) (text : List ℕ) (r : Row) (f : LineFault) → Spells v text r → Fails AreRow text 1 f → f ≡ fault.NoMemory
-spelled_has_no_fault v text r f s fails = right_has_no_fault (row_lines v r) text 1 f (record { version = v; row = r; spelled = s.spelled; are = refl }) s.is fails
+spelled_has_no_fault v text r f s fails = no_fault rows is_read_once text 1 f (v, r) s.spelled s.is fails

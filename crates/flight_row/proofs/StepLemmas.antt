@@ -29,7 +29,8 @@ use Rattle.flight_row.specs.declared.row.Version.TheVariants.{One, Two}
 use Rattle.flight_row.specs.RowText.{version_line, leg_line, edition_line, stage_line, releases_line, releases_lines, dry_line, fuel_line, limits_line, zone_line, container_line, loose_line, plan_line, plan_lines, change_line, figure_lines}
 use Rattle.flight_row.specs.Spelled.{IsEdition, IsSpelledDry, IsSpelledFuel, AreSpelledLimits, IsSpelledContainer, IsSpelledLoad, IsSpelledPlan, IsSpelledChange, AreSpelledChanges, AreSpelledFigures, AreToldReleases}
 use Rattle.flight_row.specs.Grammar.{FromEnd, FromChanges, FromPlan, FromLoads, FromContainers, FromZones, FromDry, FromReleases, FromLeg, FromVersion, figures_with, end_line}
-use Rattle.flight_row.specs.Reading.{ArePart, HasRead, IsOfKind, IsPlanFor, rest_lines}
+use Rattle.text_lines.specs.Sections.{ArePart, IsOfKind}
+use Rattle.flight_row.specs.Reading.{HasRead, IsPlanFor, rest_lines}
 use Rattle.flight_row.specs.declared.row.Row.{Row}
 use Rattle.flight_row.specs.RowText.{row_text}
 use Rattle.flight_row.specs.Spelled.{AreReleases, IsSpelled}
@@ -37,7 +38,8 @@ use Rattle.flight_row.specs.Refusals.{AreRow}
 use Rattle.flight_row.proofs.RowGrammar.{behind_stage, fails_row}
 use Rattle.flight_row.proofs.PartLemmas.{IsReadOnce, fails_before_part}
 use Rattle.flight_row.proofs.StartLemmas.{no_zone, no_container, no_load, no_plan, no_change}
-use Rattle.flight_row.proofs.RestLemmas.{some_end, some_changes, some_plan, front_few, front_changes, no_names}
+use Rattle.flight_row.proofs.RestLemmas.{some_end, some_changes, some_plan, front_changes, no_names}
+use Rattle.text_lines.proofs.PartSteps.{front_few}
 use Rattle.flight_row.proofs.OnceLemmas.{version_once, leg_once, edition_once, stage_once, releases_once, dry_once, fuel_once, limits_once, zone_once, container_once, load_once, plan_once}
 use Rattle.flight_row.proofs.LineLemmas.{zone_avoids, container_avoids, load_avoids, plan_avoids}
 use Rattle.flight_row.proofs.ChangeLineLemmas.{change_once, change_avoids}

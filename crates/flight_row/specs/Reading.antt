@@ -12,21 +12,6 @@ use Rattle.flight_row.specs.declared.reader.Head.{Head}
 use Rattle.flight_row.specs.RowText.{leg_line, edition_line, stage_line, releases_lines, plan_lines, change_line}
 use Rattle.flight_row.specs.Spelled.{IsEdition, AreReleases, IsSpelledPlan, HasPlanFor}
 
--- the line states an entry of its kind
-abbrev pub IsOfKind : {X : Type 0} → (X → List ℕ) → (X → Type 0) → List ℕ → Type 0
-IsOfKind {X} line IsRight text = (x : X) × IsRight x × (text ≡ line x)
-
--- the lines between two points of a text state these entries of one kind, which are allowed together; the next line states no
--- entry that would be allowed with them
-pub record ArePart {X : Type 0} (line : X → List ℕ) (IsRight : X → Type 0) (AreAllowed : List X → Type 0) (before after : List ℕ) (number next : ℕ) (got : List X) : Type 0 where
-  pub right : All IsRight got
-  pub allowed : AreAllowed got
-  pub read : before ≡ text_of (map line got) ++ after
-  pub counted : next ≡ number + length got
-  pub stops : (x : X) (rest : List ℕ) → IsRight x → Avoids 10 (line x) → AreAllowed (got ++ x ∷ []) → after ≢ line x ++ 10 ∷ rest
-
--- Steps -----------------------------------------------------------------------------------------
-
 -- the lines between the version of a row and its figures
 abbrev pub head_lines : Version → Head → List (List ℕ)
 head_lines version head =

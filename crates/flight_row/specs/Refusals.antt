@@ -2,6 +2,7 @@
 use Rattle.std.specs.Prelude.{◌≡◌, ℕ, List, None}
 use Rattle.aircraft_file.specs.Craft.{Craft}
 use Rattle.text_lines.specs.Grammar.{Fails}
+use Rattle.text_lines.specs.Stated.{AreLinesOf}
 use Rattle.text_lines.specs.declared.fault.LineFault.{LineFault}
 use Rattle.text_lines.specs.declared.fault.LineFault.TheVariants as line
 use Rattle.flight_row.specs.declared.row.Version.{Version}
@@ -13,11 +14,8 @@ use Rattle.flight_row.specs.Spelled.{IsSpelled, Spells}
 use Rattle.flight_row.specs.Loading.{aircraft_of}
 
 -- these are all lines of some row, in one of the versions
-pub record AreRow (lines : List (List ℕ)) : Type 0 where
-  pub version : Version
-  pub row : Row
-  pub spelled : IsSpelled version row
-  pub are : lines ≡ row_lines version row
+abbrev pub AreRow : List (List ℕ) → Type 0
+AreRow = AreLinesOf (λ (said : Version × Row). IsSpelled said.0 said.1) (λ (said : Version × Row). row_lines said.0 said.1)
 
 -- a fault of the lines, as a fault of the row
 abbrev pub row_fault : LineFault → RowFault

@@ -4,7 +4,7 @@ ghost use Rattle.std.specs.Prelude.{IfOk};
 ghost use Rattle.flight_state.specs.declared.state.Stage.TheVariants.{Released};
 ghost use Rattle.flight_row.specs.RowText.{change_line};
 ghost use Rattle.flight_row.specs.Spelled.{IsSpelledChange, AreSpelledChanges};
-ghost use Rattle.flight_row.specs.Reading.{ArePart};
+ghost use Rattle.text_lines.specs.Sections.{ArePart};
 
 use crate::section_lines::read_change;
 use desk_base::NoMemory;

@@ -30,7 +30,6 @@ mod reader;
 mod row;
 mod row_lines;
 mod section_lines;
-mod sections;
 mod single_lines;
 mod words;
 mod writer;

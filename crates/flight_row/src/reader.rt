@@ -27,14 +27,13 @@ use crate::kinds::{
 };
 use crate::loading::loaded;
 use crate::row::{PlanNames, Row, Version};
-use crate::sections::{next_said, read_up_to};
 use crate::single_lines::first_releases;
 use aircraft_file::{Aircraft, Registration};
 use desk_base::NoMemory;
 use flight_state::{FlightState, Leg, Lmcs, Stage};
 use payload::Cabin;
 use std::alloc::Global;
-use text_lines::{LineFault, Lines, expect_line};
+use text_lines::{LineFault, Lines, expect_line, next_said, read_up_to};
 use trim::{Figures, Items, LooseList};
 
 /// The most zones, containers and loose loads of a flight.

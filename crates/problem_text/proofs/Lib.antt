@@ -1,13 +1,11 @@
-pub mod WordLemmas
 pub mod PositionLemmas
 pub mod LimitLemmas
 pub mod LineLemmas
+pub mod SmallerTexts
 pub mod LineKinds
-pub mod TaskLemmas
-pub mod TaskGrammar
+pub mod TaskParts
 pub mod RefusalLemmas
 pub mod ReadLemmas
 pub mod KeepLemmas
 pub mod WriterLemmas
 pub mod SpelledTask
-pub mod SomeAnswer

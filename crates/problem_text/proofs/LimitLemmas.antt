@@ -17,27 +17,10 @@ use Rattle.hold_limits.specs.Layout.{name_at}
 use Rattle.text_lines.proofs.CutLemmas.{cut_once, split_once_again}
 use Rattle.text_lines.proofs.WordLemmas.{avoids-append, avoids-spaced, plain_word}
 use Rattle.text_lines.proofs.NameLemmas.{name_at-avoids, named_once}
+pub use Rattle.text_lines.proofs.NameRuns.{AreClear, names_are_read, names_avoid, line_of-names}
 use Rattle.text_lines.proofs.RunLemmas.{AreRead, run_text-begins, run_once}
 
--- the names of the positions do not contain the byte
-abbrev pub AreClear : ℕ → List Position → Type 0
-AreClear k ps = All (λ (q : Position). Avoids k q.name) ps
-
 -- ---- a combined line
-
-pub names_are_read : (ps : List Position) → AreClear 32 ps → AreRead (name_text ps) (IsNamed ps)
-names_are_read ps clear = record {
-  some = λ q. omega arith;
-  begins = λ q rest. refl;
-  once = λ p q rest rest' s t cut cut' e.
-      let names : name_at ps p ++ rest ≡ name_at ps q ++ rest' = cc in
-      let parts = cut_once 32 (name_at ps p) rest (name_at ps q) rest' (name_at-avoids 32 ps p clear s.known) (name_at-avoids 32 ps q clear t.known) cut cut' names in
-      (named_once ps p q s t parts.0, parts.1);
-}
-
-line_of-names : (word : List ℕ) (ps : List Position) (places : List ℕ) → line_of (word ∷ map (name_at ps) places) ≡ word ++ run_text (name_text ps) places
-line_of-names word ps [] = sym (append-nil word)
-line_of-names word ps (q ∷ places) = ap (λ t. word ++ 32 ∷ t) (line_of-names (name_at ps q) ps places)
 
 pub combined_line-is : (ps : List Position) (limit : Combined) → combined_line ps limit ≡ codes "combined " ++ (number_text limit.most.0 ++ run_text (name_text ps) limit.places)
 combined_line-is ps limit = ap (λ t. codes "combined " ++ t) (line_of-names (number_text limit.most.0) ps limit.places)
@@ -49,12 +32,6 @@ run_is_some ps (q ∷ places) some e = absurd (cc)
 pub some_in_run : (ps : List Position) (places words : List ℕ) → words ≢ [] → words ≡ run_text (name_text ps) places → 1 ≤ length places
 some_in_run ps [] words some e = absurd (some e)
 some_in_run ps (q ∷ places) words some e = omega arith
-
-names_avoid : (ps : List Position) (places : List ℕ) → AreClear 10 ps → All (IsNamed ps) places → Avoids 10 (run_text (name_text ps) places)
-names_avoid ps [] clear named = All-nil (λ b. eqb b 10 ≡ false)
-names_avoid ps (q ∷ places) clear named =
-    let here = All-head (IsNamed ps) q places named in
-    avoids-append 10 (name_text ps q) (run_text (name_text ps) places) (All-cons (λ b. eqb b 10 ≡ false) 32 (name_at ps q) refl (name_at-avoids 10 ps q clear here.known)) (names_avoid ps places clear (All-tail (IsNamed ps) q places named))
 
 pub combined_avoids : (ps : List Position) → AreClear 10 ps → (limit : Combined) → IsSpelledCombined ps limit → Avoids 10 (combined_line ps limit)
 combined_avoids ps clear limit s =

@@ -1,12 +1,16 @@
 -- the kinds of a task's lines come in their order, and none comes back
-use Rattle.std.proofs.Common.{◌≡◌, ℕ, ◌<◌, ◌≤◌, ℤ, Bool, true, false, cond, eqb, ◌++◌, ◌∷◌, List, [], map, refl, ap, arith, lit<}
+use Rattle.std.proofs.Common.{◌≡◌, ℕ, ◌+◌, ◌<◌, ◌≤◌, ℤ, Bool, true, false, cond, eqb, ◌++◌, ◌∷◌, List, [], map, refl, ap, sym, subst, ◌∙◌, arith, Option, Some, None, lit<}
+use Rattle.std.proofs.lemmas.List.{append_assoc}
+use Rattle.hold_limits.specs.Problem.{Problem}
 use Rattle.hold_parts.specs.declared.parts.Position.{Position}
 use Rattle.hold_parts.specs.declared.parts.Combined.{Combined}
 use Rattle.hold_parts.specs.declared.parts.Cumulative.{Cumulative}
+use Rattle.hold_parts.specs.declared.parts.Lateral.{Lateral}
 use Rattle.hold_parts.specs.declared.parts.Item.{Item}
 use Rattle.hold_parts.specs.declared.parts.Loose.{Loose}
-use Rattle.problem_text.specs.TaskText.{position_line, position_word, exclude_line, combined_line, cumulative_line, side_line, lateral_line, item_line, loose_line, base_line, IsSpelledPosition, IsSpelledExclude, IsSpelledCombined, IsSpelledCumulative, IsSpelledSide, IsSpelledItem, IsSpelledLoose}
-use Rattle.text_lines.proofs.RunOfLines.{Stops}
+use Rattle.problem_text.specs.TaskText.{position_line, position_word, exclude_line, combined_line, cumulative_line, side_line, lateral_line, lateral_lines, item_line, loose_line, base_line, IsSpelledPosition, IsSpelledExclude, IsSpelledCombined, IsSpelledCumulative, IsSpelledSide, IsSpelledItem, IsSpelledLoose}
+use Rattle.problem_text.specs.Grammar.{last_part, loose_part, item_part, lateral_part, cumulative_part, combined_part, limit_part}
+use Rattle.text_lines.proofs.Rests.{HasOther}
 
 abbrev Lines : Type 0
 Lines = List (List ℕ)
@@ -27,82 +31,91 @@ kind_of_position q = of_word q.bulk _
     of_word true rest = refl
     of_word false rest = refl
 
--- the next line, if there is one, is of a later kind
-abbrev pub Later : ℕ → Lines → Type 0
-Later k lines = (line : List ℕ) (more : Lines) → lines ≡ line ∷ more → k < kind line
+-- the next line is of a later kind
+record HasLater (k : ℕ) (lines : Lines) : Type 0 where
+  first : List ℕ
+  more : Lines
+  are : lines ≡ first ∷ more
+  later : k < kind first
 
-at_line : (line : List ℕ) (k : ℕ) (more : Lines) → k < kind line → Later k (line ∷ more)
-at_line line k more less = λ l rest e. let same : line ≡ l = cc in let is = ap kind same in omega (arith, is, less)
+at_line : (line : List ℕ) (k : ℕ) (more : Lines) → k < kind line → HasLater k (line ∷ more)
+at_line line k more less = record { first = line; more = more; are = refl; later = less }
 
-over : {X : Type 0} (line : X → List ℕ) (j k : ℕ) → ((x : X) → kind (line x) ≡ j) → k < j → (xs : List X) (lines : Lines) → Later k lines → Later k (map line xs ++ lines)
-over line j k of less [] lines h = h
-over line j k of less (x ∷ xs) lines h = at_line (line x) k (map line xs ++ lines) (let is = of x in omega (arith, is, less))
+earlier : (j k : ℕ) (lines : Lines) → j ≤ k → HasLater k lines → HasLater j lines
+earlier j k lines less h = record { first = h.first; more = h.more; are = h.are; later = let later = h.later in omega (arith, later, less) }
 
-stops : {X : Type 0} (line : X → List ℕ) (IsRight : X → Type 0) (k : ℕ) → ((x : X) → kind (line x) ≡ k) → (lines : Lines) → Later k lines → Stops line IsRight lines
-stops line P k of lines h = λ x more p e. let later = h (line x) more e in let is = of x in omega (arith, is, later)
+-- over lines of the kind behind this one
+over : {X : Type 0} (line : X → List ℕ) (k : ℕ) → ((x : X) → kind (line x) ≡ k + 1) → (xs : List X) (lines : Lines) → HasLater (k + 1) lines → HasLater k (map line xs ++ lines)
+over line k of [] lines h = earlier k (k + 1) lines (omega arith) h
+over line k of (x ∷ xs) lines h = at_line (line x) k (map line xs ++ lines) (let is = of x in omega (arith, is))
 
-pub earlier : (j k : ℕ) (lines : Lines) → j ≤ k → Later k lines → Later j lines
-earlier j k lines less h = λ line more e. let later = h line more e in omega (arith, later, less)
+other : {X : Type 0} (line : X → List ℕ) (P : X → Type 0) (k : ℕ) → ((x : X) → kind (line x) ≡ k) → (lines : Lines) → HasLater k lines → HasOther line P lines
+other line P k of lines h = record { first = h.first; more = h.more; are = h.are; other = λ x right e. let later = h.later in let is = ap kind e ∙ of x in omega (arith, later, is) }
 
--- ---- at a line, and over a section: what comes next is later than each kind before
+-- ---- each part goes on with a line of a later kind
 
-pub at_base : (base : ℤ) (more : Lines) → Later 8 (base_line base ∷ more)
+later_last : (t : Problem) → HasLater 8 (last_part t)
 unfolding kind
-at_base base more = at_line (base_line base) 8 more (lit< tt)
+later_last t = at_line (base_line t.base) 8 _ (lit< tt)
 
-pub over_loose : (ps : List Position) (xs : List Loose) (lines : Lines) → Later 8 lines → Later 7 (map (loose_line ps) xs ++ lines)
+later_loose : (ps : List Position) (t : Problem) → HasLater 7 (loose_part ps t)
 unfolding kind
-over_loose ps xs lines h = over (loose_line ps) 8 7 (λ x. refl) (lit< tt) xs lines (earlier 7 8 lines (omega arith) h)
+later_loose ps t = over (loose_line ps) 7 (λ x. refl) t.loose (last_part t) (later_last t)
 
-pub over_items : (xs : List Item) (lines : Lines) → Later 7 lines → Later 6 (map item_line xs ++ lines)
+later_items : (ps : List Position) (t : Problem) → HasLater 6 (item_part ps t)
 unfolding kind
-over_items xs lines h = over item_line 7 6 (λ x. refl) (lit< tt) xs lines (earlier 6 7 lines (omega arith) h)
+later_items ps t = over item_line 6 (λ x. refl) t.items (loose_part ps t) (later_loose ps t)
 
-pub at_lateral : (most : ℕ) (more : Lines) → Later 5 (lateral_line most ∷ more)
+later_lateral_line : (most : ℕ) (lines : Lines) → HasLater 5 (lateral_line most ∷ lines)
 unfolding kind
-at_lateral most more = at_line (lateral_line most) 5 more (lit< tt)
+later_lateral_line most lines = at_line (lateral_line most) 5 lines (lit< tt)
 
-pub over_sides : (ps : List Position) (xs : List (ℕ × Bool)) (lines : Lines) → Later 5 lines → Later 4 (map (side_line ps) xs ++ lines)
+over_lateral : (ps : List Position) (lateral : Option Lateral) (lines : Lines) → HasLater 6 lines → HasLater 4 (lateral_lines ps lateral ++ lines)
 unfolding kind
-over_sides ps xs lines h = over (side_line ps) 5 4 (λ x. refl) (lit< tt) xs lines (earlier 4 5 lines (omega arith) h)
+over_lateral ps None lines h = earlier 4 6 lines (omega arith) h
+over_lateral ps (Some l) lines h =
+    subst (HasLater 4) (sym (append_assoc (map (side_line ps) l.sides) (lateral_line l.most.0 ∷ []) lines)) (over (side_line ps) 4 (λ x. refl) l.sides (lateral_line l.most.0 ∷ lines) (later_lateral_line l.most.0 lines))
 
-pub over_cumulative : (ps : List Position) (xs : List Cumulative) (lines : Lines) → Later 4 lines → Later 3 (map (cumulative_line ps) xs ++ lines)
+later_lateral : (ps : List Position) (t : Problem) → HasLater 4 (lateral_part ps t)
+later_lateral ps t = over_lateral ps t.hold.lateral (item_part ps t) (later_items ps t)
+
+later_cumulative : (ps : List Position) (t : Problem) → HasLater 3 (cumulative_part ps t)
 unfolding kind
-over_cumulative ps xs lines h = over (cumulative_line ps) 4 3 (λ x. refl) (lit< tt) xs lines (earlier 3 4 lines (omega arith) h)
+later_cumulative ps t = over (cumulative_line ps) 3 (λ x. refl) t.hold.cumulative (lateral_part ps t) (later_lateral ps t)
 
-pub over_combined : (ps : List Position) (xs : List Combined) (lines : Lines) → Later 3 lines → Later 2 (map (combined_line ps) xs ++ lines)
+later_combined : (ps : List Position) (t : Problem) → HasLater 2 (combined_part ps t)
 unfolding kind
-over_combined ps xs lines h = over (combined_line ps) 3 2 (λ x. refl) (lit< tt) xs lines (earlier 2 3 lines (omega arith) h)
+later_combined ps t = over (combined_line ps) 2 (λ x. refl) t.hold.combined (cumulative_part ps t) (later_cumulative ps t)
 
-pub over_excludes : (ps : List Position) (xs : List (ℕ × ℕ)) (lines : Lines) → Later 2 lines → Later 1 (map (exclude_line ps) xs ++ lines)
+later_limits : (ps : List Position) (t : Problem) → HasLater 1 (limit_part ps t)
 unfolding kind
-over_excludes ps xs lines h = over (exclude_line ps) 2 1 (λ x. refl) (lit< tt) xs lines (earlier 1 2 lines (omega arith) h)
+later_limits ps t = over (exclude_line ps) 1 (λ x. refl) t.hold.excludes (combined_part ps t) (later_combined ps t)
 
--- ---- where a later kind comes next, a section ends
+-- ---- so each run of lines ends where the next part begins
 
-pub stops_positions : (lines : Lines) → Later 1 lines → Stops position_line IsSpelledPosition lines
-stops_positions lines h = stops position_line IsSpelledPosition 1 kind_of_position lines h
+pub positions_end : (ps : List Position) (t : Problem) → HasOther position_line IsSpelledPosition (limit_part ps t)
+positions_end ps t = other position_line IsSpelledPosition 1 kind_of_position (limit_part ps t) (later_limits ps t)
 
-pub stops_excludes : (ps : List Position) (lines : Lines) → Later 2 lines → Stops (exclude_line ps) (IsSpelledExclude ps) lines
+pub excludes_end : (ps : List Position) (t : Problem) → HasOther (exclude_line ps) (IsSpelledExclude ps) (combined_part ps t)
 unfolding kind
-stops_excludes ps lines h = stops (exclude_line ps) (IsSpelledExclude ps) 2 (λ x. refl) lines h
+excludes_end ps t = other (exclude_line ps) (IsSpelledExclude ps) 2 (λ x. refl) (combined_part ps t) (later_combined ps t)
 
-pub stops_combined : (ps : List Position) (lines : Lines) → Later 3 lines → Stops (combined_line ps) (IsSpelledCombined ps) lines
+pub combined_end : (ps : List Position) (t : Problem) → HasOther (combined_line ps) (IsSpelledCombined ps) (cumulative_part ps t)
 unfolding kind
-stops_combined ps lines h = stops (combined_line ps) (IsSpelledCombined ps) 3 (λ x. refl) lines h
+combined_end ps t = other (combined_line ps) (IsSpelledCombined ps) 3 (λ x. refl) (cumulative_part ps t) (later_cumulative ps t)
 
-pub stops_cumulative : (ps : List Position) (lines : Lines) → Later 4 lines → Stops (cumulative_line ps) (IsSpelledCumulative ps) lines
+pub cumulative_end : (ps : List Position) (t : Problem) → HasOther (cumulative_line ps) (IsSpelledCumulative ps) (lateral_part ps t)
 unfolding kind
-stops_cumulative ps lines h = stops (cumulative_line ps) (IsSpelledCumulative ps) 4 (λ x. refl) lines h
+cumulative_end ps t = other (cumulative_line ps) (IsSpelledCumulative ps) 4 (λ x. refl) (lateral_part ps t) (later_lateral ps t)
 
-pub stops_sides : (ps : List Position) (lines : Lines) → Later 5 lines → Stops (side_line ps) (IsSpelledSide ps) lines
+pub sides_end : (ps : List Position) (most : ℕ) (lines : Lines) → HasOther (side_line ps) (IsSpelledSide ps) (lateral_line most ∷ lines)
 unfolding kind
-stops_sides ps lines h = stops (side_line ps) (IsSpelledSide ps) 5 (λ x. refl) lines h
+sides_end ps most lines = other (side_line ps) (IsSpelledSide ps) 5 (λ x. refl) (lateral_line most ∷ lines) (later_lateral_line most lines)
 
-pub stops_items : (lines : Lines) → Later 7 lines → Stops item_line IsSpelledItem lines
+pub items_end : (ps : List Position) (t : Problem) → HasOther item_line IsSpelledItem (loose_part ps t)
 unfolding kind
-stops_items lines h = stops item_line IsSpelledItem 7 (λ x. refl) lines h
+items_end ps t = other item_line IsSpelledItem 7 (λ x. refl) (loose_part ps t) (later_loose ps t)
 
-pub stops_loose : (ps : List Position) (lines : Lines) → Later 8 lines → Stops (loose_line ps) (IsSpelledLoose ps) lines
+pub loose_end : (ps : List Position) (t : Problem) → HasOther (loose_line ps) (IsSpelledLoose ps) (last_part t)
 unfolding kind
-stops_loose ps lines h = stops (loose_line ps) (IsSpelledLoose ps) 8 (λ x. refl) lines h
+loose_end ps t = other (loose_line ps) (IsSpelledLoose ps) 8 (λ x. refl) (last_part t) (later_last t)

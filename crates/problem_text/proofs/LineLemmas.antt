@@ -7,7 +7,7 @@ use Rattle.hold_parts.specs.declared.parts.Item.{Item}
 use Rattle.text_lines.specs.Cuts.{Avoids}
 use Rattle.problem_text.specs.TaskText.{lateral_line, item_line, base_line, window_line, ideal_line, IsSpelledItem}
 use Rattle.text_lines.proofs.CutLemmas.{split_once_again}
-use Rattle.problem_text.proofs.WordLemmas.{id_avoids}
+use Rattle.text_lines.proofs.SpelledWords.{id_avoids}
 use Rattle.text_lines.proofs.WordLemmas.{avoids-append, avoids-spaced, plain_word}
 
 pub lateral_avoids : (most : ℕ) → Avoids 10 (lateral_line most)

@@ -13,7 +13,7 @@ use Rattle.text_lines.specs.Cuts.{Avoids, IsCutAt}
 use Rattle.problem_text.specs.WordRuns.{fit_text, IsSpelledFit}
 use Rattle.text_lines.specs.WordRuns.{run_text}
 use Rattle.text_lines.proofs.CutLemmas.{cut_once, split_once_again}
-use Rattle.problem_text.proofs.WordLemmas.{name_avoids, kind_avoids}
+use Rattle.text_lines.proofs.SpelledWords.{name_avoids, kind_avoids}
 use Rattle.text_lines.proofs.WordLemmas.{avoids-append, avoids-spaced, plain_word}
 use Rattle.text_lines.proofs.RunLemmas.{AreRead, run_text-begins, run_once}
 

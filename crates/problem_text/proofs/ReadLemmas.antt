@@ -1,256 +1,260 @@
 -- what the steps of the reader make of a text
-use Rattle.std.proofs.Common.{◌≡◌, ℕ, ◌+◌, ◌<◌, ℤ, Bool, length, arith, ◌++◌, ◌∷◌, List, [], map, refl, sym, ◌∙◌, ap, subst, All, Option, Some, None, IfSome, option_map, codes}
-use Rattle.std.proofs.lemmas.List.{append_assoc}
-use Rattle.std.proofs.lemmas.List.Elements.{All-same}
+use Rattle.std.proofs.Common.{◌≡◌, ℕ, Bool, ◌+◌, ◌++◌, ◌∷◌, List, [], length, map, refl, sym, ◌∙◌, ap, subst, arith, All, Option, Some, None, IfSome, option_map, codes, lit<}
+use Rattle.std.proofs.lemmas.List.{append_assoc, length-append, length-map}
+use Rattle.std.proofs.lemmas.List.Elements.{All-nil}
+use Rattle.mass_units.specs.Spelling.{IsIndex, IsNumber}
 use Rattle.hold_limits.specs.Problem.{Problem}
 use Rattle.hold_parts.specs.declared.parts.Position.{Position}
 use Rattle.hold_parts.specs.declared.parts.Combined.{Combined}
 use Rattle.hold_parts.specs.declared.parts.Cumulative.{Cumulative}
 use Rattle.hold_parts.specs.declared.parts.Lateral.{Lateral}
 use Rattle.hold_parts.specs.declared.parts.Indices.{Indices}
-use Rattle.problem_text.specs.TaskText.{position_line, exclude_line, combined_line, cumulative_line, item_line, lateral_line, side_line, header_line, lateral_lines, base_line, window_line, ideal_line, IsSpelledPosition, IsSpelledExclude, IsSpelledCombined, IsSpelledCumulative, IsSpelledSide, IsSpelledItem, IsSpelledLateral, IsSpelled, Spells}
-use Rattle.text_lines.specs.Lines.{text_of}
-use Rattle.problem_text.specs.Grammar.{AreLast, AreLoads, AreLateral, AreLimits, ArePositions, AreAll, version_line, IsSpelledBand, end_line}
+use Rattle.text_lines.specs.Lines.{text_of, IsStopped}
 use Rattle.text_lines.specs.Grammar.{Fails}
-use Rattle.text_lines.specs.Grammar.Fails.{more_bytes}
-use Rattle.problem_text.specs.Reading.{IsVersionLine, IsLateralLine, IsIndexLine, IsBandLine}
-use Rattle.text_lines.specs.Lines.{IsStopped}
-use Rattle.problem_text.specs.PositionNumbers.{keep_pair, keep_combined, keep_cumulative, keep_side, keep_lateral, keep_problem}
-use Rattle.problem_text.specs.Reading.{text_fault}
-use Rattle.problem_text.specs.Refusals.{IsRefused}
-use Rattle.mass_units.specs.Spelling.{IsIndex, IsNumber}
-use Rattle.text_lines.specs.Sections.{IsSection}
+use Rattle.text_lines.specs.declared.lines.Lines.{Lines as Point}
+use Rattle.text_lines.specs.declared.fault.LineFault.{LineFault}
+use Rattle.text_lines.proofs.SectionLemmas.{text_of-append}
+use Rattle.text_lines.proofs.PartSteps.{IsAny, PartBetween, section_part, whole_part}
+use Rattle.text_lines.proofs.Rests.{Rest, FailsAt, behind, Leads, then, SaysOne, StartsWithOne, past_one, fails_at_one}
+use Rattle.text_lines.proofs.RunsOfLines.{StartsWithRun, past_run}
+use Rattle.problem_text.proofs.SmallerTexts.{Holds, fails_within, read_within}
+use Rattle.problem_text.specs.TaskText.{exclude_line, combined_line, cumulative_line, side_line, lateral_line, lateral_lines, item_line, loose_line, IsSpelledPosition, IsSpelledExclude, IsSpelledCombined, IsSpelledCumulative, IsSpelledSide, IsSpelledLateral, IsSpelledItem, IsSpelledLoose, IsSpelled}
+use Rattle.problem_text.specs.Reading.{IsLateralLine}
+use Rattle.problem_text.specs.PositionNumbers.{keep_pair, keep_combined, keep_cumulative, keep_lateral, keep_loose, keep_problem}
 use Rattle.problem_text.specs.Parts.{IsLateral, AreSections, AreIndices, last_lines, problem_of_parts}
 use Rattle.problem_text.specs.Parts.IsLateral.{absent, present}
+use Rattle.problem_text.specs.Grammar.{version_of, item_part, lateral_part, limit_part, IsTaskOf, AreLateral, AreLast}
 use Rattle.problem_text.specs.declared.parts.Version.{Version}
-use Rattle.problem_text.specs.declared.parts.Version.TheVariants.{Two}
+use Rattle.problem_text.specs.declared.parts.Version.TheVariants.{One, Two}
 use Rattle.problem_text.specs.declared.parts.Sections.{Sections}
 use Rattle.problem_text.specs.declared.parts.Parts.{Parts}
-use Rattle.text_lines.specs.declared.fault.LineFault.{LineFault}
-use Rattle.text_lines.specs.declared.fault.LineFault.TheVariants.{Line}
-use Rattle.text_lines.proofs.SectionLemmas.{text_of-append}
-use Rattle.problem_text.proofs.LimitLemmas.{AreClear}
-use Rattle.problem_text.proofs.LineLemmas.{lateral_once, base_once, window_once, ideal_once}
-use Rattle.text_lines.proofs.GrammarLemmas.{fails_before_run, fails_before_line, fails_at_line}
-use Rattle.problem_text.proofs.TaskLemmas.{clear_names, last, rest_of, after_items, after_lateral, after_cumulative, after_combined, after_excludes, after_positions, task_lines-whole}
-use Rattle.problem_text.proofs.TaskGrammar.{AreNone, FromEnd, FromIdeal, FromWindow, FromLateralLine, some_end, some_ideal, some_window, some_last, some_lateral_line, some_task, refused_for, version_once, positions_read_once, loose_read_once, items_read_once, sides_read_once, cumulative_read_once, combined_read_once, excludes_read_once}
+use Rattle.problem_text.proofs.LineLemmas.{lateral_avoids, lateral_once}
+use Rattle.problem_text.proofs.LimitLemmas.{side_avoids, side_once}
+use Rattle.problem_text.proofs.LineKinds.{sides_end}
+use Rattle.problem_text.proofs.RefusalLemmas.{empty_task, zero_index}
+use Rattle.problem_text.proofs.TaskParts.{clear_names, limits, from_lateral, from_last, lateral_on, indices, task_with, are_indices, SaysLateral, starts_with_excludes, starts_with_combined, starts_with_cumulative, starts_with_items, starts_with_loose, past_lateral}
 
--- ---- sections of which all is kept
+abbrev Lines : Type 0
+Lines = List (List ℕ)
 
-map-same : {X : Type 0} (xs : List X) → map (λ x. x) xs ≡ xs
-map-same [] = refl
-map-same (x ∷ xs) = ap (λ t. x ∷ t) (map-same xs)
+-- The lateral limit that was read -----------------------------------------------------------------
 
-pub as_got : {X : Type 0} (line : X → List ℕ) (IsRight : X → Type 0) (before after : List ℕ) (number next : ℕ) (got : List X) → IsSection line IsRight (λ x. x) before after number next got → All IsRight got × (before ≡ text_of (map line got) ++ after)
-as_got line P before after number next got s =
-    let same : got ≡ s.said = s.kept ∙ map-same s.said in
-    (All-same P got s.said same s.right, s.read ∙ ap (λ xs. text_of (map line xs) ++ after) (sym same))
+pub record LateralRead (version : Version) (ps : List Position) (here there : Point) (got : Option Lateral) : Type 0 where
+  pub said : Option Lateral
+  pub says : SaysLateral version ps here there said
+  pub kept : got ≡ option_map keep_lateral said
 
--- ---- the lateral limit that was read
-
-record SaysLateral (version : Version) (ps : List Position) (before after : List ℕ) (got : Option Lateral) : Type 0 where
-  said : Option Lateral
-  header : version_line version ≡ header_line said
-  right : IfSome said (IsSpelledLateral ps)
-  kept : got ≡ option_map keep_lateral said
-  read : before ≡ text_of (lateral_lines ps said) ++ after
-
-lateral_read : (version : Version) (ps : List Position) (before after : List ℕ) (number next : ℕ) (got : Option Lateral) → IsLateral ps before after number next version got → SaysLateral version ps before after got
-lateral_read _ ps before after number next _ (absent e counted) = record { said = None; header = refl; right = tt; kept = refl; read = e }
-lateral_read _ ps before after number next _ (present got behind end s most e counted) =
-    let sides = text_of (map (side_line ps) s.said) in
+lateral_read : (version : Version) (ps : List Position) (here there : Point) (got : Option Lateral) → IsLateral ps here there version got → LateralRead version ps here there got
+lateral_read _ ps here there _ (absent e counted) = record {
+  said = None;
+  says = record { version_is = refl; right = tt; read = e; counted = omega (arith, counted) };
+  kept = refl;
+}
+lateral_read _ ps here there _ (present got behind s most e counted) =
+    let sides : Lines = map (side_line ps) s.said in
     let line = lateral_line got.most.0 in
+    let long = length-append sides (line ∷ []) in
+    let few = length-map s.said (side_line ps) in
+    let old = s.counted in
     record {
       said = Some (record { most = got.most; sides = s.said });
-      header = refl;
-      right = record { sides = s.right; most = most };
+      says = record {
+        version_is = refl;
+        right = record { sides = s.right; most = most };
+        read = s.read ∙ ap (λ t. text_of sides ++ t) (e ∙ sym (append_assoc line (10 ∷ []) there.rest.now))
+            ∙ sym (append_assoc (text_of sides) (line ++ 10 ∷ []) there.rest.now) ∙ ap (λ t. t ++ there.rest.now) (sym (text_of-append sides (line ∷ [])));
+        counted = omega (arith, long, few, old, counted);
+      };
       kept = λ i. Some (record { most = got.most; sides = s.kept i });
-      read = s.read ∙ ap (λ t. sides ++ t) (e ∙ sym (append_assoc line (10 ∷ []) after))
-          ∙ sym (append_assoc sides (line ++ 10 ∷ []) after) ∙ ap (λ t. t ++ after) (sym (text_of-append (map (side_line ps) s.said) (line ∷ [])));
     }
 
--- ---- the task that was read
+-- The sections that were read ---------------------------------------------------------------------
 
--- a text has its sections, and what the reader keeps of them
-pub record AreRead (text : List ℕ) (version : Version) (ps : List Position) (got : Sections) (at : Indices) : Type 0 where
-  pub start : List ℕ
-  pub behind : List ℕ
-  pub rest : List ℕ
-  pub first : ℕ
-  pub second : ℕ
-  pub next : ℕ
-  pub header : text ≡ version_line version ++ 10 ∷ start
-  pub positions : IsSection position_line IsSpelledPosition (λ q. q) start behind first second ps
-  pub sections : AreSections version ps behind rest second next got
-  pub right : AreIndices at
-  pub end : rest ≡ text_of (last_lines at)
+module _ (version : Version) (ps : List Position) (spelled : All IsSpelledPosition ps) where
+  -- the limits before the lateral one
+  pub to_lateral : (l0 l1 l2 l3 : Point) {excludes : List (ℕ × ℕ)} {combined : List Combined} {cumulative : List Cumulative} → PartBetween (exclude_line ps) (IsSpelledExclude ps) IsAny l0 l1 excludes
+      → PartBetween (combined_line ps) (IsSpelledCombined ps) IsAny l1 l2 combined → PartBetween (cumulative_line ps) (IsSpelledCumulative ps) IsAny l2 l3 cumulative → Leads (limits version ps) l0 (from_lateral version ps excludes combined cumulative) l3
+  to_lateral l0 l1 l2 l3 {excludes = excludes} {combined = combined} a b c =
+      then (past_run (starts_with_excludes version ps spelled) l0 l1 a)
+      (then (past_run (starts_with_combined version ps spelled excludes) l1 l2 b) (past_run (starts_with_cumulative version ps spelled excludes combined) l2 l3 c))
 
--- one section more in front of a text
-lead : (lines more : List (List ℕ)) (before after : List ℕ) → before ≡ text_of lines ++ after → after ≡ text_of more → before ≡ text_of (lines ++ more)
-lead lines more before after e g = e ∙ ap (λ t. text_of lines ++ t) g ∙ sym (text_of-append lines more)
-
--- the text spells a task, and what was kept of it is what is kept of that task
-pub task_read : (text : List ℕ) (version : Version) (ps : List Position) (got : Sections) (at : Indices) → AreRead text version ps got at → (t : Problem) × Spells text t × ((parts : Parts) → parts.positions.items ≡ ps → parts.sections ≡ got → parts.indices ≡ at → problem_of_parts parts ≡ keep_problem t)
-task_read text version ps got at r =
-    let s = r.sections in
-    let lateral = lateral_read version ps s.after_cumulative s.after_lateral s.cumulative_end s.lateral_end got.lateral s.lateral in
-    let positions = as_got position_line IsSpelledPosition r.start r.behind r.first r.second ps r.positions in
-    let items = as_got item_line IsSpelledItem s.after_lateral s.after_items s.lateral_end s.items_end got.items.items s.items in
-    let t : Problem = record {
-      hold = record { positions = ps; excludes = s.excludes.said; combined = s.combined.said; cumulative = s.cumulative.said; lateral = lateral.said };
-      items = got.items.items;
-      loose = s.loose.said;
-      base = at.base.0;
-      low = at.window.low.0;
-      high = at.window.high.0;
-      ideal_low = at.ideal.low.0;
-      ideal_high = at.ideal.high.0;
-    } in
-    let u = rest_of t in
-    let e1 : s.after_items ≡ text_of (after_items ps u (last t)) = lead _ (last t) s.after_items r.rest s.loose.read r.end in
-    let e2 : s.after_lateral ≡ text_of (after_lateral ps u (last t)) = lead _ _ s.after_lateral s.after_items items.1 e1 in
-    let e3 : s.after_cumulative ≡ text_of (after_cumulative ps u (last t)) = lead _ _ s.after_cumulative s.after_lateral lateral.read e2 in
-    let e4 : s.after_combined ≡ text_of (after_combined ps u (last t)) = lead _ _ s.after_combined s.after_cumulative s.cumulative.read e3 in
-    let e5 : s.after_excludes ≡ text_of (after_excludes ps u (last t)) = lead _ _ s.after_excludes s.after_combined s.combined.read e4 in
-    let e6 : r.behind ≡ text_of (after_positions ps u (last t)) = lead _ _ r.behind s.after_excludes s.excludes.read e5 in
-    let e7 : r.start ≡ text_of (map position_line ps ++ after_positions ps u (last t)) = lead _ _ r.start r.behind positions.1 e6 in
-    let whole : text ≡ text_of (header_line lateral.said ∷ (map position_line ps ++ after_positions ps u (last t))) = r.header ∙ (λ i. lateral.header i ++ 10 ∷ e7 i) in
-    let spelled : IsSpelled t = record {
-      positions = positions.0;
-      excludes = s.excludes.right;
-      combined = s.combined.right;
-      cumulative = s.cumulative.right;
-      lateral = lateral.right;
-      items = items.0;
-      loose = s.loose.right;
-      base = r.right.base;
-      low = r.right.low;
-      high = r.right.high;
-      ideal_low = r.right.ideal_low;
-      ideal_high = r.right.ideal_high;
-    } in (
-      t,
-      record { is = whole ∙ ap text_of (sym (task_lines-whole t)); spelled = spelled },
-      λ parts same_positions same_sections same_indices i. record {
-        hold = record {
-          positions = same_positions i;
-          excludes = (ap (λ (x : Sections). x.excludes.items) same_sections ∙ s.excludes.kept) i;
-          combined = (ap (λ (x : Sections). x.combined.items) same_sections ∙ s.combined.kept) i;
-          cumulative = (ap (λ (x : Sections). x.cumulative.items) same_sections ∙ s.cumulative.kept) i;
-          lateral = (ap (λ (x : Sections). x.lateral) same_sections ∙ lateral.kept) i;
+  -- where the lines from that of the lateral limit on fail, those from the first limit on fail
+  pub fails_before_lateral : (l0 l1 l2 l3 : Point) (excludes : List (ℕ × ℕ)) (combined : List Combined) (cumulative : List Cumulative) → PartBetween (exclude_line ps) (IsSpelledExclude ps) IsAny l0 l1 excludes
+      → PartBetween (combined_line ps) (IsSpelledCombined ps) IsAny l1 l2 combined → PartBetween (cumulative_line ps) (IsSpelledCumulative ps) IsAny l2 l3 cumulative
+      → (fault : LineFault) → FailsAt (lateral_on version ps) l3 fault → FailsAt (limits version ps) l0 fault
+  fails_before_lateral l0 l1 l2 l3 excludes combined cumulative a b c fault fails =
+      let whole : Problem → Problem = λ t. record t { hold = record t.hold { excludes = excludes; combined = combined; cumulative = cumulative } } in
+      let right : (t : Problem) → IsTaskOf version ps t → IsTaskOf version ps (whole t) = λ t s.
+      let Own : List Position → Type 0 = λ qs. All (IsSpelledExclude qs) excludes × All (IsSpelledCombined qs) combined × All (IsSpelledCumulative qs) cumulative in
+      let own : Own t.hold.positions = subst Own (sym s.positions_are) (a.right, b.right, c.right) in
+      record {
+        spelled = record {
+          positions = s.spelled.positions;
+          excludes = own.0;
+          combined = own.1;
+          cumulative = own.2;
+          lateral = s.spelled.lateral;
+          items = s.spelled.items;
+          loose = s.spelled.loose;
+          base = s.spelled.base;
+          low = s.spelled.low;
+          high = s.spelled.high;
+          ideal_low = s.spelled.ideal_low;
+          ideal_high = s.spelled.ideal_high;
         };
-        items = (same_sections i).items.items;
-        loose = (ap (λ (x : Sections). x.loose.items) same_sections ∙ s.loose.kept) i;
-        base = (same_indices i).base.0;
-        low = (same_indices i).window.low.0;
-        high = (same_indices i).window.high.0;
-        ideal_low = (same_indices i).ideal.low.0;
-        ideal_high = (same_indices i).ideal.high.0;
-      },
-    )
+        version_is = s.version_is;
+        positions_are = s.positions_are;
+      } in
+      let holds : Holds (from_lateral version ps excludes combined cumulative) (lateral_on version ps) whole = record {
+        forth = λ t s. ((((right t s, refl), refl), refl), refl);
+        back = λ t s. (t, s.0.0.0, refl, λ i. record t { hold = record t.hold { excludes = sym s.0.0.1 i; combined = sym s.0.1 i; cumulative = sym s.1 i } });
+      } in
+      (to_lateral l0 l1 l2 l3 a b c).fails fault (fails_within holds l3 fault fails)
 
--- ---- where lines further on fail, those from an earlier point on fail
+  module _ (here there : Point) (got : Sections) (s : AreSections version ps here there got) where
+    pub lateral : LateralRead version ps s.l3 s.l4 got.lateral
+    lateral = lateral_read version ps s.l3 s.l4 got.lateral s.lateral
 
-pub fails_before_sides : (ps : List Position) → AreClear 32 ps → AreClear 10 ps → (before after : List ℕ) (number next : ℕ) (got : List (ℕ × Bool)) (fault : LineFault) → IsSection (side_line ps) (IsSpelledSide ps) keep_side before after number next got → Fails (FromLateralLine ps) after next fault → Fails (AreLateral Two ps) before number fault
-fails_before_sides ps spaces feeds before after number next got fault s fails =
-    fails_before_run (side_line ps) (IsSpelledSide ps) keep_side (λ (sides : List (ℕ × Bool)). FromLateralLine ps) before after number next got fault (sides_read_once ps spaces feeds) s fails
+    items_are : PartBetween item_line IsSpelledItem IsAny s.l4 s.l5 got.items.items
+    items_are = whole_part item_line IsSpelledItem s.l4.rest.now s.l5.rest.now s.l4.number s.l5.number got.items.items s.items
 
-pub fails_before_lateral : (version : Version) (ps : List Position) → AreClear 32 ps → AreClear 10 ps → (before after : List ℕ) (number next : ℕ) (got : Option Lateral) (fault : LineFault) → IsLateral ps before after number next version got → Fails (AreLoads ps) after next fault → Fails (AreLateral version ps) before number fault
-fails_before_lateral _ ps spaces feeds before after number next _ fault (absent e counted) fails =
-    let At : List ℕ → ℕ → Type 0 = λ text n. Fails (AreLoads ps) text n fault in
-    subst (λ n. At before n) (sym counted) (subst (λ text. At text next) (sym e) fails)
-fails_before_lateral _ ps spaces feeds before after number next _ fault (present got behind end s most e counted) fails =
-    let line : Fails (FromLateralLine ps) behind end fault =
-    fails_before_line lateral_line IsNumber (λ (most : ℕ). AreLoads ps) got.most.0 behind after end next fault (λ other right same. lateral_once got.most.0 other same) most e counted fails in
-    fails_before_sides ps spaces feeds before behind number end got.sides fault s line
+    -- the task with these sections and indices
+    abbrev pub task_read : Indices → Problem
+    task_read = task_with (record { positions = ps; excludes = s.excludes.said; combined = s.combined.said; cumulative = s.cumulative.said; lateral = lateral.said }) got.items.items s.loose.said
 
--- the limits before the lateral limit
-pub fails_before_limits : (version : Version) (ps : List Position) → AreClear 32 ps → AreClear 10 ps → (before after1 after2 after : List ℕ) (number end1 end2 next : ℕ) (excludes : List (ℕ × ℕ)) (combined : List Combined) (cumulative : List Cumulative) (fault : LineFault)
-    → IsSection (exclude_line ps) (IsSpelledExclude ps) keep_pair before after1 number end1 excludes
-    → IsSection (combined_line ps) (IsSpelledCombined ps) keep_combined after1 after2 end1 end2 combined
-    → IsSection (cumulative_line ps) (IsSpelledCumulative ps) keep_cumulative after2 after end2 next cumulative
-    → Fails (AreLateral version ps) after next fault → Fails (AreLimits version ps) before number fault
-fails_before_limits version ps spaces feeds before after1 after2 after number end1 end2 next excludes combined cumulative fault s1 s2 s3 fails =
-    let fails3 = fails_before_run _ _ _ _ after2 after end2 next cumulative fault (cumulative_read_once version ps spaces feeds) s3 fails in
-    let fails2 = fails_before_run _ _ _ _ after1 after2 end1 end2 combined fault (combined_read_once version ps spaces feeds) s2 fails3 in
-    fails_before_run _ _ _ _ before after1 number end1 excludes fault (excludes_read_once version ps spaces feeds) s1 fails2
+    task_right : (at : Indices) → AreIndices at → IsTaskOf version ps (task_read at)
+    task_right at right = record {
+      spelled = record {
+        positions = spelled;
+        excludes = s.excludes.right;
+        combined = s.combined.right;
+        cumulative = s.cumulative.right;
+        lateral = lateral.says.right;
+        items = items_are.right;
+        loose = s.loose.right;
+        base = right.base;
+        low = right.low;
+        high = right.high;
+        ideal_low = right.ideal_low;
+        ideal_high = right.ideal_high;
+      };
+      version_is = lateral.says.version_is;
+      positions_are = refl;
+    }
 
--- all sections between the positions and the last lines
-pub fails_before_sections : (version : Version) (ps : List Position) → AreClear 32 ps → AreClear 10 ps → (before after : List ℕ) (number next : ℕ) (got : Sections) (fault : LineFault) → AreSections version ps before after number next got → Fails AreLast after next fault → Fails (AreLimits version ps) before number fault
-fails_before_sections version ps spaces feeds before after number next got fault s fails =
-    let loose = fails_before_run _ _ _ _ s.after_items after s.items_end next got.loose.items fault (loose_read_once ps spaces feeds) s.loose fails in
-    let items = fails_before_run _ _ _ _ s.after_lateral s.after_items s.lateral_end s.items_end got.items.items fault (items_read_once ps) s.items loose in
-    let lateral = fails_before_lateral version ps spaces feeds s.after_cumulative s.after_lateral s.cumulative_end s.lateral_end got.lateral fault s.lateral items in
-    fails_before_limits version ps spaces feeds before s.after_excludes s.after_combined s.after_cumulative number s.excludes_end s.combined_end s.cumulative_end got.excludes.items got.combined.items got.cumulative.items fault s.excludes s.combined s.cumulative lateral
+    abbrev last : Rest Problem
+    last = from_last version ps s.excludes.said s.combined.said s.cumulative.said lateral.said got.items.items s.loose.said
 
--- ---- the last lines, one after another
+    to_last : Leads (limits version ps) here last there
+    to_last =
+        then (to_lateral here s.l1 s.l2 s.l3 (section_part _ _ keep_pair _ _ _ _ got.excludes.items s.excludes) (section_part _ _ keep_combined _ _ _ _ got.combined.items s.combined) (section_part _ _ keep_cumulative _ _ _ _ got.cumulative.items s.cumulative))
+        (then (past_lateral version ps spelled s.excludes.said s.combined.said s.cumulative.said s.l3 s.l4 lateral.said lateral.says)
+        (then (past_run (starts_with_items version ps spelled s.excludes.said s.combined.said s.cumulative.said lateral.said) s.l4 s.l5 items_are)
+        (past_run (starts_with_loose version ps spelled s.excludes.said s.combined.said s.cumulative.said lateral.said got.items.items) s.l5 there (section_part _ _ keep_loose _ _ _ _ got.loose.items s.loose))))
 
-pub fails_at_base : (text : List ℕ) (number : ℕ) (fault : LineFault) → IsStopped text number (IsIndexLine (codes "base ")) fault → Fails AreLast text number fault
-fails_at_base text number fault stopped = fails_at_line base_line IsIndex (λ (base : ℤ). FromWindow) (IsIndexLine (codes "base ")) text number fault some_last (λ index right. (index, right, refl)) stopped
+    holds_indices : Holds last indices task_read
+    holds_indices = record {
+      forth = λ at right. (((((((task_right at right, refl), refl), refl), refl), refl), refl), refl);
+      back = are_indices version ps spelled s.excludes.said s.combined.said s.cumulative.said lateral.said got.items.items s.loose.said;
+    }
 
-pub fails_at_window : (text : List ℕ) (number : ℕ) (fault : LineFault) → IsStopped text number (IsBandLine (codes "window ")) fault → Fails FromWindow text number fault
-fails_at_window text number fault stopped =
-    fails_at_line (λ (band : ℤ × ℤ). window_line band.0 band.1) IsSpelledBand (λ (window : ℤ × ℤ). FromIdeal) (IsBandLine (codes "window ")) text number fault some_window (λ band right. (band.0, band.1, right.0, right.1, refl)) stopped
+    -- where the last lines fail, those from behind the positions on fail
+    pub fails_before_last : (fault : LineFault) → Fails AreLast there.rest.now there.number fault → FailsAt (limits version ps) here fault
+    fails_before_last fault fails = to_last.fails fault (fails_within holds_indices there fault fails)
 
-pub fails_at_ideal : (text : List ℕ) (number : ℕ) (fault : LineFault) → IsStopped text number (IsBandLine (codes "ideal ")) fault → Fails FromIdeal text number fault
-fails_at_ideal text number fault stopped =
-    fails_at_line (λ (band : ℤ × ℤ). ideal_line band.0 band.1) IsSpelledBand (λ (ideal : ℤ × ℤ). FromEnd) (IsBandLine (codes "ideal ")) text number fault some_ideal (λ band right. (band.0, band.1, right.0, right.1, refl)) stopped
+    pub read_to_last : (at : Indices) → AreIndices at → there.rest.now ≡ text_of (last_lines at) → IsTaskOf version ps (task_read at) × (here.rest.now ≡ text_of (limit_part ps (task_read at)))
+    read_to_last at right e = let r = read_within holds_indices at right e in to_last.read (task_read at) r.0 r.1
 
-pub fails_at_end : (text : List ℕ) (number : ℕ) (fault : LineFault) → IsStopped text number (λ line. line ≡ codes "END") fault → Fails FromEnd text number fault
-fails_at_end text number fault stopped =
-    fails_at_line end_line (λ (end : Unit {0}). Unit {0}) (λ (end : Unit {0}). AreNone) (λ line. line ≡ codes "END") text number fault some_end (λ end right. refl) stopped
+    pub task_kept : (parts : Parts) → parts.positions.items ≡ ps → parts.sections ≡ got → problem_of_parts parts ≡ keep_problem (task_read parts.indices)
+    task_kept parts same_positions same_sections i = record {
+      hold = record {
+        positions = same_positions i;
+        excludes = (ap (λ (x : Sections). x.excludes.items) same_sections ∙ s.excludes.kept) i;
+        combined = (ap (λ (x : Sections). x.combined.items) same_sections ∙ s.combined.kept) i;
+        cumulative = (ap (λ (x : Sections). x.cumulative.items) same_sections ∙ s.cumulative.kept) i;
+        lateral = (ap (λ (x : Sections). x.lateral) same_sections ∙ lateral.kept) i;
+      };
+      items = (same_sections i).items.items;
+      loose = (ap (λ (x : Sections). x.loose.items) same_sections ∙ s.loose.kept) i;
+      base = parts.indices.base.0;
+      low = parts.indices.window.low.0;
+      high = parts.indices.window.high.0;
+      ideal_low = parts.indices.ideal.low.0;
+      ideal_high = parts.indices.ideal.high.0;
+    }
 
-pub fails_behind_end : (text : List ℕ) (number : ℕ) → (length text ≡ 0 → ⊥) → Fails AreNone text number (Line number)
-fails_behind_end [] number some = absurd (some refl)
-fails_behind_end (byte ∷ text) number some =
-    let At : ℕ → Type 0 = λ n. Fails AreNone (byte ∷ text) number (Line n) in
-    subst At (omega arith) (more_bytes [] byte text refl refl)
+-- The lines of a lateral limit --------------------------------------------------------------------
 
-pub fails_before_window : (text after : List ℕ) (number next : ℕ) (base : ℤ) (fault : LineFault) → text ≡ base_line base ++ 10 ∷ after → IsIndex base → next ≡ number + 1 → Fails FromWindow after next fault → Fails AreLast text number fault
-fails_before_window text after number next base fault e right counted fails =
-    fails_before_line base_line IsIndex (λ (b : ℤ). FromWindow) base text after number next fault (λ other right same. base_once base other same) right e counted fails
+sides_of : Option Lateral → List (ℕ × Bool)
+sides_of None = []
+sides_of (Some lateral) = lateral.sides
 
-pub fails_before_ideal : (text after : List ℕ) (number next : ℕ) (low high : ℤ) (fault : LineFault) → text ≡ window_line low high ++ 10 ∷ after → IsIndex low → IsIndex high → next ≡ number + 1 → Fails FromIdeal after next fault → Fails FromWindow text number fault
-fails_before_ideal text after number next low high fault e is_low is_high counted fails =
-    fails_before_line (λ (band : ℤ × ℤ). window_line band.0 band.1) IsSpelledBand (λ (window : ℤ × ℤ). FromIdeal) (low, high) text after number next fault
-    (λ other right same. let ends = window_once low high other.0 other.1 same in λ i. (ends.0 i, ends.1 i)) (is_low, is_high) e counted fails
+most_of : Option Lateral → ℕ
+most_of None = 0
+most_of (Some lateral) = lateral.most.0
 
-pub fails_before_end : (text after : List ℕ) (number next : ℕ) (low high : ℤ) (fault : LineFault) → text ≡ ideal_line low high ++ 10 ∷ after → IsIndex low → IsIndex high → next ≡ number + 1 → Fails FromEnd after next fault → Fails FromIdeal text number fault
-fails_before_end text after number next low high fault e is_low is_high counted fails =
-    fails_before_line (λ (band : ℤ × ℤ). ideal_line band.0 band.1) IsSpelledBand (λ (ideal : ℤ × ℤ). FromEnd) (low, high) text after number next fault
-    (λ other right same. let ends = ideal_once low high other.0 other.1 same in λ i. (ends.0 i, ends.1 i)) (is_low, is_high) e counted fails
+module _ (ps : List Position) (spelled : All IsSpelledPosition ps) where
+  lateral_are : (lateral : Option Lateral) (lines : Lines) → version_of lateral ≡ Two → lateral_lines ps lateral ++ lines ≡ map (side_line ps) (sides_of lateral) ++ (lateral_line (most_of lateral) ∷ lines)
+  unfolding sides_of most_of
+  lateral_are None lines v = absurd (cc)
+  lateral_are (Some l) lines v = append_assoc (map (side_line ps) l.sides) (lateral_line l.most.0 ∷ []) lines
 
-pub fails_before_nothing : (text after : List ℕ) (number next : ℕ) (fault : LineFault) → text ≡ codes "END" ++ 10 ∷ after → next ≡ number + 1 → Fails AreNone after next fault → Fails FromEnd text number fault
-fails_before_nothing text after number next fault e counted fails =
-    fails_before_line end_line (λ (end : Unit {0}). Unit {0}) (λ (end : Unit {0}). AreNone) tt text after number next fault (λ other right same. refl) tt e counted fails
+  lateral_right : (lateral : Option Lateral) → version_of lateral ≡ Two → IfSome lateral (IsSpelledLateral ps) → All (IsSpelledSide ps) (sides_of lateral) × IsNumber (most_of lateral)
+  unfolding sides_of most_of
+  lateral_right None v s = absurd (cc)
+  lateral_right (Some l) v s = (s.sides, s.most)
 
-pub last_read : (at : Indices) (text second third fourth after : List ℕ) → text ≡ base_line at.base.0 ++ 10 ∷ second → second ≡ window_line at.window.low.0 at.window.high.0 ++ 10 ∷ third → third ≡ ideal_line at.ideal.low.0 at.ideal.high.0 ++ 10 ∷ fourth → fourth ≡ codes "END" ++ 10 ∷ after → length after ≡ 0 → text ≡ text_of (last_lines at)
-last_read at text second third fourth [] e1 e2 e3 e4 none =
-    e1 ∙ ap (λ t. base_line at.base.0 ++ 10 ∷ t) (e2 ∙ ap (λ t. window_line at.window.low.0 at.window.high.0 ++ 10 ∷ t) (e3 ∙ ap (λ t. ideal_line at.ideal.low.0 at.ideal.high.0 ++ 10 ∷ t) e4))
-last_read at text second third fourth (byte ∷ after) e1 e2 e3 e4 none = absurd (omega (arith, none))
+  right_of : (t : Problem) → IsTaskOf Two ps t → All (IsSpelledSide ps) (sides_of t.hold.lateral) × IsNumber (most_of t.hold.lateral)
+  right_of t s = lateral_right t.hold.lateral s.version_is (subst (λ (qs : List Position). IfSome t.hold.lateral (IsSpelledLateral qs)) s.positions_are s.spelled.lateral)
 
--- ---- the lateral limit and the header, at their lines
+  most_part : Problem → Lines
+  most_part t = lateral_line (most_of t.hold.lateral) ∷ item_part ps t
 
-pub fails_at_lateral : (ps : List Position) (text : List ℕ) (number : ℕ) (fault : LineFault) → IsStopped text number IsLateralLine fault → Fails (FromLateralLine ps) text number fault
-fails_at_lateral ps text number fault stopped =
-    fails_at_line lateral_line IsNumber (λ (most : ℕ). AreLoads ps) IsLateralLine text number fault (some_lateral_line ps) (λ most right. (most, right, refl)) stopped
+  starts_with_sides : StartsWithRun (lateral_on Two ps) (side_line ps) (IsSpelledSide ps) IsAny (λ t. sides_of t.hold.lateral) most_part
+  unfolding most_part
+  starts_with_sides = record {
+    kind = record { once = side_once ps (clear_names 32 ps (lit< tt) spelled); avoids = side_avoids ps (clear_names 10 ps (lit< tt) spelled) };
+    front = λ xs ys any. tt;
+    right = λ t s. (right_of t s).0;
+    allowed = λ t s. tt;
+    are = λ t s. lateral_are t.hold.lateral (item_part ps t) s.version_is;
+    other = λ t s. sides_end ps (most_of t.hold.lateral) (item_part ps t);
+  }
 
-pub refused_at_header : (text : List ℕ) (number : ℕ) (fault : LineFault) → number ≡ 1 → IsStopped text number IsVersionLine fault → IsRefused text (text_fault fault)
-refused_at_header text number fault one stopped =
-    let fails : Fails AreAll text number fault = fails_at_line version_line (λ (version : Version). Unit {0}) ArePositions IsVersionLine text number fault some_task (λ version right. (version, refl)) stopped in
-    let At : ℕ → Type 0 = λ n. Fails AreAll text n fault in
-    refused_for text fault (subst At one fails)
+  starts_with_most : (sides : List (ℕ × Bool)) → StartsWithOne (behind (lateral_on Two ps) (λ t. sides_of t.hold.lateral) sides most_part) lateral_line IsNumber (λ t. most_of t.hold.lateral) (item_part ps)
+  unfolding most_part
+  starts_with_most sides = record {
+    kind = record { once = λ a b s t e. lateral_once a b e; avoids = λ most s. lateral_avoids most };
+    right = λ t s. (right_of t s.0).1;
+    are = λ t s. refl;
+  }
 
--- the header and the positions
-pub refused_after_positions : (text start behind : List ℕ) (version : Version) (number first second : ℕ) (ps : List Position) (fault : LineFault) → number ≡ 1 → text ≡ version_line version ++ 10 ∷ start → first ≡ number + 1 → IsSection position_line IsSpelledPosition (λ q. q) start behind first second ps → Fails (AreLimits version ps) behind second fault → IsRefused text (text_fault fault)
-refused_after_positions text start behind version number first second ps fault one e counted s fails =
-    let same : s.said ≡ ps = sym (s.kept ∙ map-same s.said) in
-    let Of : List Position → Type 0 = λ qs. Fails (AreLimits version qs) behind second fault in
-    let positions : Fails (ArePositions version) start first fault = fails_before_run position_line IsSpelledPosition (λ q. q) (AreLimits version) start behind first second ps fault (positions_read_once version) s (subst Of (sym same) fails) in
-    let header : Fails AreAll text number fault = fails_before_line version_line (λ (v : Version). Unit {0}) ArePositions version text start number first fault (λ other right same. version_once version other same) tt e counted positions in
-    let At : ℕ → Type 0 = λ n. Fails AreAll text n fault in
-    refused_for text fault (subst At one header)
+  -- some task of the version has these sides
+  some_task : List (ℕ × Bool) → Problem
+  some_task sides = record empty_task { hold = record empty_task.hold { positions = ps; lateral = Some (record { most = record { 0 = 0 }; sides = sides }) } }
 
--- the names of the positions that were read contain neither a space nor the end of a line
-pub clear_of : (k : ℕ) (start behind : List ℕ) (first second : ℕ) (ps : List Position) → k < 45 → IsSection position_line IsSpelledPosition (λ q. q) start behind first second ps → AreClear k ps
-clear_of k start behind first second ps low s = clear_names k ps low (as_got position_line IsSpelledPosition start behind first second ps s).0
+  some_is : (sides : List (ℕ × Bool)) → All (IsSpelledSide ps) sides → IsTaskOf Two ps (some_task sides)
+  unfolding some_task
+  some_is sides right = record {
+    spelled = record {
+      positions = spelled;
+      excludes = All-nil (IsSpelledExclude ps);
+      combined = All-nil (IsSpelledCombined ps);
+      cumulative = All-nil (IsSpelledCumulative ps);
+      lateral = record { sides = right; most = lit< tt };
+      items = All-nil IsSpelledItem;
+      loose = All-nil (IsSpelledLoose ps);
+      base = zero_index;
+      low = zero_index;
+      high = zero_index;
+      ideal_low = zero_index;
+      ideal_high = zero_index;
+    };
+    version_is = refl;
+    positions_are = refl;
+  }
+
+  pub fails_behind_sides : (here there : Point) (sides : List (ℕ × Bool)) (fault : LineFault) → PartBetween (side_line ps) (IsSpelledSide ps) IsAny here there sides → IsStopped there.rest.now there.number IsLateralLine fault → FailsAt (lateral_on Two ps) here fault
+  unfolding some_task sides_of
+  fails_behind_sides here there sides fault are stopped =
+      (past_run starts_with_sides here there are).fails fault (fails_at_one (starts_with_most sides) (some_task sides) (some_is sides are.right, refl) there fault stopped)

@@ -1,13 +1,11 @@
 -- which lines a task has from some point of its text on
-use Rattle.std.specs.Prelude.{◌≡◌, ℕ, ℤ, Bool, List, [], codes}
-use Rattle.mass_units.specs.Spelling.{IsIndex, IsNumber}
+use Rattle.std.specs.Prelude.{◌≡◌, ℕ, List, [], ◌∷◌, ◌++◌, map, Option, Some, None, codes}
 use Rattle.hold_parts.specs.declared.parts.Position.{Position}
-use Rattle.hold_parts.specs.declared.parts.Combined.{Combined}
-use Rattle.hold_parts.specs.declared.parts.Cumulative.{Cumulative}
-use Rattle.hold_parts.specs.declared.parts.Item.{Item}
-use Rattle.hold_parts.specs.declared.parts.Loose.{Loose}
-use Rattle.text_lines.specs.Grammar.{HasOne, HasRun}
-use Rattle.problem_text.specs.TaskText.{position_line, exclude_line, combined_line, cumulative_line, side_line, lateral_line, item_line, loose_line, base_line, window_line, ideal_line, IsSpelledPosition, IsSpelledExclude, IsSpelledCombined, IsSpelledCumulative, IsSpelledSide, IsSpelledItem, IsSpelledLoose}
+use Rattle.hold_parts.specs.declared.parts.Lateral.{Lateral}
+use Rattle.hold_limits.specs.Problem.{Problem}
+use Rattle.text_lines.specs.Stated.{AreLinesOf}
+use Rattle.problem_text.specs.TaskText.{exclude_line, combined_line, cumulative_line, lateral_lines, item_line, loose_line, base_line, window_line, ideal_line, IsSpelled}
+use Rattle.problem_text.specs.Parts.{AreIndices, last_lines}
 use Rattle.problem_text.specs.declared.parts.Version.{Version}
 use Rattle.problem_text.specs.declared.parts.Version.TheVariants.{One, Two}
 
@@ -16,46 +14,47 @@ abbrev pub version_line : Version → List ℕ
 version_line One = codes "TASK 1"
 version_line Two = codes "TASK 2"
 
--- both ends of the band are in their spelling
-abbrev pub IsSpelledBand : ℤ × ℤ → Type 0
-IsSpelledBand band = IsIndex band.0 × IsIndex band.1
+abbrev pub version_of : Option Lateral → Version
+version_of None = One
+version_of (Some lateral) = Two
 
--- nothing but its keyword is said by the line
-abbrev pub end_line : Unit {0} → List ℕ
-end_line u = codes "END"
+-- the lines from that of the base index on
+abbrev pub last_part : Problem → List (List ℕ)
+last_part t = base_line t.base ∷ window_line t.low t.high ∷ ideal_line t.ideal_low t.ideal_high ∷ codes "END" ∷ []
 
--- from the line of the base index on
-abbrev pub AreLast : List (List ℕ) → Type 0
-AreLast =
-    HasOne base_line IsIndex (λ (base : ℤ).
-    HasOne (λ (band : ℤ × ℤ). window_line band.0 band.1) IsSpelledBand (λ (window : ℤ × ℤ).
-    HasOne (λ (band : ℤ × ℤ). ideal_line band.0 band.1) IsSpelledBand (λ (ideal : ℤ × ℤ).
-    HasOne end_line (λ (end : Unit {0}). Unit {0}) (λ (end : Unit {0}) (lines : List (List ℕ)). lines ≡ []))))
+-- from those of the loose loads, of the containers, of the lateral limit, and of the other limits on
+abbrev pub loose_part : List Position → Problem → List (List ℕ)
+loose_part ps t = map (loose_line ps) t.loose ++ last_part t
 
--- from the lines of the containers on
-abbrev pub AreLoads : List Position → List (List ℕ) → Type 0
-AreLoads ps =
-    HasRun item_line IsSpelledItem (λ (items : List Item).
-    HasRun (loose_line ps) (IsSpelledLoose ps) (λ (loose : List Loose). AreLast))
+abbrev pub item_part : List Position → Problem → List (List ℕ)
+item_part ps t = map item_line t.items ++ loose_part ps t
 
--- from behind the lines of the cumulative limits on
-abbrev pub AreLateral : Version → List Position → List (List ℕ) → Type 0
-AreLateral One ps = AreLoads ps
-AreLateral Two ps =
-    HasRun (side_line ps) (IsSpelledSide ps) (λ (sides : List (ℕ × Bool)).
-    HasOne lateral_line IsNumber (λ (most : ℕ). AreLoads ps))
+abbrev pub lateral_part : List Position → Problem → List (List ℕ)
+lateral_part ps t = lateral_lines ps t.hold.lateral ++ item_part ps t
 
--- from behind the lines of the positions on
+abbrev pub cumulative_part : List Position → Problem → List (List ℕ)
+cumulative_part ps t = map (cumulative_line ps) t.hold.cumulative ++ lateral_part ps t
+
+abbrev pub combined_part : List Position → Problem → List (List ℕ)
+combined_part ps t = map (combined_line ps) t.hold.combined ++ cumulative_part ps t
+
+abbrev pub limit_part : List Position → Problem → List (List ℕ)
+limit_part ps t = map (exclude_line ps) t.hold.excludes ++ combined_part ps t
+
+-- a task whose text has this version, and that has these positions
+pub record IsTaskOf (version : Version) (ps : List Position) (t : Problem) : Type 0 where
+  pub spelled : IsSpelled t
+  pub version_is : version_of t.hold.lateral ≡ version
+  pub positions_are : t.hold.positions ≡ ps
+
+-- these are all lines of some such task from behind those of its positions on
 abbrev pub AreLimits : Version → List Position → List (List ℕ) → Type 0
-AreLimits version ps =
-    HasRun (exclude_line ps) (IsSpelledExclude ps) (λ (excludes : List (ℕ × ℕ)).
-    HasRun (combined_line ps) (IsSpelledCombined ps) (λ (combined : List Combined).
-    HasRun (cumulative_line ps) (IsSpelledCumulative ps) (λ (cumulative : List Cumulative). AreLateral version ps)))
+AreLimits version ps = AreLinesOf (IsTaskOf version ps) (limit_part ps)
 
--- from the lines of the positions on
-abbrev pub ArePositions : Version → List (List ℕ) → Type 0
-ArePositions version = HasRun position_line IsSpelledPosition (AreLimits version)
+-- from behind those of the cumulative limits on
+abbrev pub AreLateral : Version → List Position → List (List ℕ) → Type 0
+AreLateral version ps = AreLinesOf (IsTaskOf version ps) (lateral_part ps)
 
--- all lines
-abbrev pub AreAll : List (List ℕ) → Type 0
-AreAll = HasOne version_line (λ (version : Version). Unit {0}) ArePositions
+-- and from the line of the base index on
+abbrev pub AreLast : List (List ℕ) → Type 0
+AreLast = AreLinesOf AreIndices last_lines

@@ -9,6 +9,7 @@ use Rattle.hold_limits.specs.Layout.{layout_under}
 use Rattle.problem_text.specs.TaskText.{exclude_line, combined_line, cumulative_line, side_line, lateral_line, item_line, loose_line, base_line, window_line, ideal_line, IsSpelledExclude, IsSpelledCombined, IsSpelledCumulative, IsSpelledSide, IsSpelledItem, IsSpelledLoose}
 use Rattle.problem_text.specs.PositionNumbers.{keep_pair, keep_combined, keep_cumulative, keep_side, keep_loose}
 use Rattle.text_lines.specs.Sections.{IsSection}
+use Rattle.text_lines.specs.declared.lines.Lines.{Lines}
 use Rattle.problem_text.specs.declared.parts.Version.{Version}
 use Rattle.problem_text.specs.declared.parts.Version.TheVariants.{One, Two}
 use Rattle.problem_text.specs.declared.parts.Sections.{Sections}
@@ -16,35 +17,27 @@ use Rattle.problem_text.specs.declared.parts.Parts.{Parts}
 
 -- a lateral limit, where the version has one, lies between two points of a text; a point is what is still to be read,
 -- with the number of its first line
-pub data IsLateral (ps : List Position) (before after : List ℕ) (number next : ℕ) : Version → Option Lateral → Type 0 where
-  absent : before ≡ after → number ≡ next → IsLateral ps before after number next One None
-  present : (got : Lateral) (behind : List ℕ) (end : ℕ)
-      → IsSection (side_line ps) (IsSpelledSide ps) keep_side before behind number end got.sides
-      → IsNumber got.most.0 → behind ≡ lateral_line got.most.0 ++ 10 ∷ after → next ≡ end + 1
-      → IsLateral ps before after number next Two (Some got)
+pub data IsLateral (ps : List Position) (here there : Lines) : Version → Option Lateral → Type 0 where
+  absent : here.rest.now ≡ there.rest.now → here.number ≡ there.number → IsLateral ps here there One None
+  present : (got : Lateral) (behind : Lines)
+      → IsSection (side_line ps) (IsSpelledSide ps) keep_side here.rest.now behind.rest.now here.number behind.number got.sides
+      → IsNumber got.most.0 → behind.rest.now ≡ lateral_line got.most.0 ++ 10 ∷ there.rest.now → there.number ≡ behind.number + 1
+      → IsLateral ps here there Two (Some got)
 
 -- the sections after the positions lie between two points of a text
-pub record AreSections (version : Version) (ps : List Position) (before after : List ℕ) (number next : ℕ) (got : Sections) : Type 0 where
-  pub after_excludes : List ℕ
-  pub after_combined : List ℕ
-  pub after_cumulative : List ℕ
-  pub after_lateral : List ℕ
-  pub after_items : List ℕ
-  pub excludes_end : ℕ
-  pub combined_end : ℕ
-  pub cumulative_end : ℕ
-  pub lateral_end : ℕ
-  pub items_end : ℕ
-  pub excludes : IsSection (exclude_line ps) (IsSpelledExclude ps) keep_pair before after_excludes number excludes_end
-      got.excludes.items
-  pub combined : IsSection (combined_line ps) (IsSpelledCombined ps) keep_combined after_excludes after_combined
-      excludes_end combined_end got.combined.items
-  pub cumulative : IsSection (cumulative_line ps) (IsSpelledCumulative ps) keep_cumulative after_combined after_cumulative
-      combined_end cumulative_end got.cumulative.items
-  pub lateral : IsLateral ps after_cumulative after_lateral cumulative_end lateral_end version got.lateral
-  pub items : IsSection item_line IsSpelledItem (λ x. x) after_lateral after_items lateral_end items_end
-      got.items.items
-  pub loose : IsSection (loose_line ps) (IsSpelledLoose ps) keep_loose after_items after items_end next got.loose.items
+pub record AreSections (version : Version) (ps : List Position) (here there : Lines) (got : Sections) : Type 0 where
+  pub l1 : Lines
+  pub l2 : Lines
+  pub l3 : Lines
+  pub l4 : Lines
+  pub l5 : Lines
+  pub excludes : IsSection (exclude_line ps) (IsSpelledExclude ps) keep_pair here.rest.now l1.rest.now here.number l1.number got.excludes.items
+  pub combined : IsSection (combined_line ps) (IsSpelledCombined ps) keep_combined l1.rest.now l2.rest.now l1.number l2.number got.combined.items
+  pub cumulative : IsSection (cumulative_line ps) (IsSpelledCumulative ps) keep_cumulative l2.rest.now l3.rest.now l2.number l3.number
+      got.cumulative.items
+  pub lateral : IsLateral ps l3 l4 version got.lateral
+  pub items : IsSection item_line IsSpelledItem (λ x. x) l4.rest.now l5.rest.now l4.number l5.number got.items.items
+  pub loose : IsSection (loose_line ps) (IsSpelledLoose ps) keep_loose l5.rest.now there.rest.now l5.number there.number got.loose.items
 
 -- the indices are in their spelling
 pub record AreIndices (at : Indices) : Type 0 where

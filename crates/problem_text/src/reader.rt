@@ -63,17 +63,30 @@ fn read_sections(
     lines: &mut Lines<'_>,
 ) -> Result<Sections, LineFault>
     requires spelled { All IsSpelledPosition positions.now }
-    ensures read { IfOk result (AreSections version positions.now lines.old.rest.now lines.new.rest.now
-        lines.old.number lines.new.number) }
+    ensures read { IfOk result (AreSections version positions.now lines.old lines.new) }
     ensures refused { IfErr result (Fails (AreLimits version positions.now) lines.old.rest.now lines.old.number) }
 {
     let names = Names::new(alloc, positions)?;
-    let excludes = read_section(alloc, &ExcludeLines(&names), lines)?;
-    let combined = read_section(alloc, &CombinedLines(&names), lines)?;
-    let cumulative = read_section(alloc, &CumulativeLines(&names), lines)?;
-    let lateral = read_lateral(alloc, version, &names, lines)?;
+    read_named(alloc, version, &names, lines)
+}
+
+/// The same, with the positions by their names.
+fn read_named(
+    alloc: Global,
+    version: Version,
+    names: &Names<'_>,
+    lines: &mut Lines<'_>,
+) -> Result<Sections, LineFault>
+    requires spelled { All IsSpelledPosition names.now.positions.now }
+    ensures read { IfOk result (AreSections version names.now.positions.now lines.old lines.new) }
+    ensures refused { IfErr result (Fails (AreLimits version names.now.positions.now) lines.old.rest.now lines.old.number) }
+{
+    let excludes = read_section(alloc, &ExcludeLines(names), lines)?;
+    let combined = read_section(alloc, &CombinedLines(names), lines)?;
+    let cumulative = read_section(alloc, &CumulativeLines(names), lines)?;
+    let lateral = read_lateral(alloc, version, names, lines)?;
     let items = read_section(alloc, &ItemLines, lines)?;
-    let loose = read_section(alloc, &LooseLines(&names), lines)?;
+    let loose = read_section(alloc, &LooseLines(names), lines)?;
     Ok(Sections {
         excludes,
         combined,
@@ -92,8 +105,7 @@ fn read_lateral(
     lines: &mut Lines<'_>,
 ) -> Result<Option<Lateral>, LineFault>
     requires spelled { All IsSpelledPosition names.now.positions.now }
-    ensures read { IfOk result (IsLateral names.now.positions.now lines.old.rest.now lines.new.rest.now
-        lines.old.number lines.new.number version) }
+    ensures read { IfOk result (IsLateral names.now.positions.now lines.old lines.new version) }
     ensures refused { IfErr result (Fails (AreLateral version names.now.positions.now) lines.old.rest.now lines.old.number) }
 {
     match version {

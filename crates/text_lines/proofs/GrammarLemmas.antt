@@ -79,9 +79,17 @@ fails_earlier W L lines text rest number next _ step e counted (early_end done b
     (λ whole. none (all_later W L lines done rest behind step g whole))
 fails_earlier W L lines text rest number next _ step e counted no_memory = no_memory
 
+-- lines of two kinds that are one have the same faults
+pub fails_same : {K L : Lines → Type 0} → ((lines : Lines) → K lines → L lines) → ((lines : Lines) → L lines → K lines) → (text : List ℕ) (number : ℕ) (fault : LineFault) → Fails K text number fault → Fails L text number fault
+fails_same forth back text number _ (wrong_line done line after e clear b none) =
+    wrong_line done line after e clear (record { more = b.more; kind = forth (done ++ b.more) b.kind }) (λ more. none (record { more = more.more; kind = back ((done ++ line ∷ []) ++ more.more) more.kind }))
+fails_same forth back text number _ (more_bytes done byte after e all) = more_bytes done byte after e (forth done all)
+fails_same forth back text number _ (early_end done rest e clear b none) = early_end done rest e clear (record { more = b.more; kind = forth (done ++ b.more) b.kind }) (λ a. none (back done a))
+fails_same forth back text number _ no_memory = no_memory
+
 -- ---- past a run of lines of one kind
 
-stops_from : {X : Type 0} (line : X → List ℕ) (IsRight : X → Type 0) → ((x : X) → IsRight x → Avoids 10 (line x)) → (text : List ℕ) (lines : Lines) → HasNoneAhead line IsRight text → HasFirst text lines → Stops line IsRight lines
+pub stops_from : {X : Type 0} (line : X → List ℕ) (IsRight : X → Type 0) → ((x : X) → IsRight x → Avoids 10 (line x)) → (text : List ℕ) (lines : Lines) → HasNoneAhead line IsRight text → HasFirst text lines → Stops line IsRight lines
 stops_from line P avoids text lines none first = λ x more p e. let found = first (line x) more e in none (line x) found.0 found.1 (avoids x p) x p refl
 
 -- a kind of line that is read in one way only, and that no line of what follows is of

@@ -2,8 +2,15 @@ pub mod CutLemmas
 pub mod TextCuts
 pub mod GrowingTexts
 pub mod WordLemmas
+pub mod SpelledWords
 pub mod NameLemmas
 pub mod RunLemmas
+pub mod NameRuns
 pub mod SectionLemmas
 pub mod RunOfLines
 pub mod GrammarLemmas
+pub mod Rests
+pub mod RunsOfLines
+pub mod OneReading
+pub mod OneAnswer
+pub mod PartSteps

@@ -4,3 +4,4 @@ pub mod Names
 pub mod WordRuns
 pub mod Sections
 pub mod Grammar
+pub mod Stated

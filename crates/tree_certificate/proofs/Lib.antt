@@ -2,10 +2,8 @@ pub mod WordForms
 pub mod PriceLemmas
 pub mod SetWords
 pub mod LineLemmas
-pub mod TreeGrammar
-pub mod TreeLines
-pub mod ReadLemmas
 pub mod SectionSteps
 pub mod ThreeRuns
+pub mod TreeParts
+pub mod ReadLemmas
 pub mod WriterSteps
-pub mod AnswerLemmas

@@ -11,6 +11,7 @@ use Rattle.text_lines.proofs.CutLemmas.{split_once_again}
 use Rattle.text_lines.specs.WordRuns.{run_text, name_text}
 use Rattle.text_lines.proofs.RunOfLines.{Stops, section_once}
 use Rattle.text_lines.proofs.TextCuts.{AreLines}
+use Rattle.text_lines.proofs.Rests.{HasOther, other_first, other_behind}
 use Rattle.text_lines.proofs.NameLemmas.{name_at-avoids, named_once}
 use Rattle.text_lines.proofs.WordLemmas.{avoids-append, avoids-spaced, plain_word}
 use Rattle.certificate.specs.CertificateText.{path_line}
@@ -155,21 +156,23 @@ least_once ps a b s t e =
 abbrev Lines : Type 0
 Lines = List (List ℕ)
 
--- prices and the line before the first tree follow the cliques
-pub stops_cliques : (ps : List Position) (prices : List ListedPrices) (claim : Claim) (more : Lines) → Stops (clique_line ps) (IsSpelledSet ps) (map (price_line ps) prices ++ (root_line claim ∷ more))
-stops_cliques ps [] (Best path) more clique behind s e =
-    let same : codes "nearer" ≡ clique_line ps clique = cc in clique_differs ps clique (codes "nearer") (λ f. absurd (omega (arith, f))) (sym same)
-stops_cliques ps [] NoneFits more clique behind s e =
-    let same : codes "any" ≡ clique_line ps clique = cc in clique_differs ps clique (codes "any") (λ f. absurd (omega (arith, f))) (sym same)
-stops_cliques ps (list ∷ prices) claim more clique behind s e =
-    let same : price_line ps list ≡ clique_line ps clique = cc in
-    price_differs ps list (codes "clique" ++ run_text (name_text ps) (members clique)) (λ f. absurd (omega (arith, f))) (λ f. absurd (omega (arith, f))) (same ∙ path_line-is (codes "clique") ps (members clique))
+-- the line before the first tree is that of no clique and of no prices
+root_is_no_clique : (ps : List Position) (claim : Claim) (clique : PositionSet) → root_line claim ≢ clique_line ps clique
+root_is_no_clique ps (Best path) clique e = clique_differs ps clique (codes "nearer") (λ f. absurd (omega (arith, f))) (sym e)
+root_is_no_clique ps NoneFits clique e = clique_differs ps clique (codes "any") (λ f. absurd (omega (arith, f))) (sym e)
 
-pub stops_prices : (ps : List Position) (claim : Claim) (more : Lines) → Stops (price_line ps) (IsSpelledPriceList ps) (root_line claim ∷ more)
-stops_prices ps (Best path) more list behind s e =
-    let same : codes "nearer" ≡ price_line ps list = cc in price_differs ps list (codes "nearer") (λ f. absurd (omega (arith, f))) (λ f. absurd (omega (arith, f))) (sym same)
-stops_prices ps NoneFits more list behind s e =
-    let same : codes "any" ≡ price_line ps list = cc in price_differs ps list (codes "any") (λ f. absurd (omega (arith, f))) (λ f. absurd (omega (arith, f))) (sym same)
+root_is_no_price : (ps : List Position) (claim : Claim) (list : ListedPrices) → root_line claim ≢ price_line ps list
+root_is_no_price ps (Best path) list e = price_differs ps list (codes "nearer") (λ f. absurd (omega (arith, f))) (λ f. absurd (omega (arith, f))) (sym e)
+root_is_no_price ps NoneFits list e = price_differs ps list (codes "any") (λ f. absurd (omega (arith, f))) (λ f. absurd (omega (arith, f))) (sym e)
+
+price_is_no_clique : (ps : List Position) (list : ListedPrices) (clique : PositionSet) → price_line ps list ≢ clique_line ps clique
+price_is_no_clique ps list clique e = price_differs ps list (codes "clique" ++ run_text (name_text ps) (members clique)) (λ f. absurd (omega (arith, f))) (λ f. absurd (omega (arith, f))) (e ∙ path_line-is (codes "clique") ps (members clique))
+
+pub prices_end : (ps : List Position) (claim : Claim) (more : Lines) → HasOther (price_line ps) (IsSpelledPriceList ps) (root_line claim ∷ more)
+prices_end ps claim more = other_first (root_line claim) more (λ list right. root_is_no_price ps claim list)
+
+pub cliques_end : (ps : List Position) (prices : List ListedPrices) (claim : Claim) (more : Lines) → HasOther (clique_line ps) (IsSpelledSet ps) (map (price_line ps) prices ++ (root_line claim ∷ more))
+cliques_end ps prices claim more = other_behind (price_line ps) (λ list clique right. price_is_no_clique ps list clique) prices (root_line claim ∷ more) (other_first (root_line claim) more (λ clique right. root_is_no_clique ps claim clique))
 
 least_is_no_operation : (ps : List Position) (at : ℕ × ℕ) (operation : Operation) → least_line ps at ≢ operation_line ps operation
 least_is_no_operation ps at (Leaf v) e = differ_at 3 e (λ f. absurd (omega (arith, f)))
@@ -188,6 +191,10 @@ pub siblings_stop : (ps : List Position) (siblings : List ListedSibling) (lines 
 siblings_stop ps [] lines stop = stop
 siblings_stop ps (x ∷ siblings) lines stop = λ operation behind s e.
     let same : least_line ps (x.rank, x.position) ≡ operation_line ps operation = cc in least_is_no_operation ps (x.rank, x.position) operation same
+
+pub operations_end : (ps : List Position) (siblings : List ListedSibling) (more : Lines) → HasOther (operation_line ps) (IsSpelledOperation ps) (sibling_lines ps siblings ++ codes "END" ∷ more)
+operations_end ps [] more = other_first (codes "END") more (λ operation right. end_is_no_operation ps operation)
+operations_end ps (x ∷ siblings) more = other_first (least_line ps (x.rank, x.position)) ((map (operation_line ps) x.operations ++ sibling_lines ps siblings) ++ codes "END" ∷ more) (λ operation right. least_is_no_operation ps (x.rank, x.position) operation)
 
 pub end_stops_operations : (ps : List Position) (more : Lines) → Stops (operation_line ps) (IsSpelledOperation ps) (codes "END" ∷ more)
 end_stops_operations ps more operation behind s e = let same : codes "END" ≡ operation_line ps operation = cc in end_is_no_operation ps operation same

@@ -1,4 +1,4 @@
--- sections that grow by one entry, and where they stop
+-- siblings that are read one after another
 use Rattle.std.proofs.Common.{◌≡◌, ℕ, ◌+◌, ◌<◌, ◌++◌, ◌∷◌, List, [], length, map, refl, sym, ◌∙◌, ap, subst, arith, All}
 use Rattle.std.proofs.lemmas.List.{append_assoc, append-nil, length-append, length-map}
 use Rattle.std.proofs.lemmas.List.Elements.{All-nil, All-push}
@@ -13,49 +13,6 @@ use Rattle.tree_certificate.specs.declared.parts.Sibling.{Sibling}
 use Rattle.tree_certificate.specs.Listed.{ListedSibling, listed_sibling}
 use Rattle.tree_certificate.specs.TreeText.{least_line, sibling_lines, operation_line, IsSpelledLeast, IsSpelledOperation, IsSpelledSibling}
 use Rattle.tree_certificate.specs.Reading.{IsSibling, HasNoOperationAhead, HasNoLeastAhead, AreSiblings}
-
--- entries that were read, as values
-pub record AreSoFar {X Y : Type 0} (value : Y → X) (line : X → List ℕ) (P : X → Type 0) (before after : List ℕ) (number next : ℕ) (got : List Y) : Type 0 where
-  pub right : All P (map value got)
-  pub read : before ≡ text_of (map line (map value got)) ++ after
-  pub counted : next ≡ number + length (map value got)
-
-pub one_more : {X Y : Type 0} (value : Y → X) (line : X → List ℕ) (P : X → Type 0) (before rest after : List ℕ) (number at next : ℕ) (got new : List Y) (y : Y) → AreSoFar value line P before rest number at got
-    → P (value y) → rest ≡ line (value y) ++ 10 ∷ after → next ≡ at + 1 → new ≡ got ++ y ∷ [] → AreSoFar value line P before after number next new
-one_more {X} {Y} value line P before rest after number at next got new y so right e counted grew =
-    let now : map value (got ++ y ∷ []) ≡ map value got ++ value y ∷ [] = map-push value got y in
-    let more : AreSoFar value line P before after number next (got ++ y ∷ []) = record {
-      right = subst (All P) (sym now) (All-push P (map value got) (value y) so.right right);
-      read =
-          so.read ∙ ap (λ t. text_of (map line (map value got)) ++ t) e ∙ sym (text_of-push line (map value got) (value y) after)
-          ∙ ap (λ (xs : List X). text_of (map line xs) ++ after) (sym now);
-      counted = let old = so.counted in let long = ap length now ∙ length-append (map value got) (value y ∷ []) in omega (arith, long, old, counted);
-    } in
-    subst (AreSoFar value line P before after number next) (sym grew) more
-
-map-same : {X : Type 0} (xs : List X) → xs ≡ map (λ (x : X). x) xs
-map-same [] = refl
-map-same (x ∷ xs) = ap (λ ys. x ∷ ys) (map-same xs)
-
-pub is_section : {X Y : Type 0} (value : Y → X) (line : X → List ℕ) (P : X → Type 0) (before after : List ℕ) (number next : ℕ) (got : List Y) → AreSoFar value line P before after number next got → HasNoneAhead line P after
-    → IsSection line P (λ (x : X). x) before after number next (map value got)
-is_section value line P before after number next got so stops = record {
-  said = map value got;
-  kept = map-same (map value got);
-  right = so.right;
-  read = so.read;
-  stops = stops;
-  counted = so.counted;
-}
-
--- the next line is not of the kind, or there is none
-pub none_at_line : {X : Type 0} (line : X → List ℕ) (P : X → Type 0) (rest front after : List ℕ) → rest ≡ front ++ 10 ∷ after → Avoids 10 front → ((x : X) → P x → front ≡ line x → ⊥) → HasNoneAhead line P rest
-none_at_line line P rest front after e clear none other behind f plain x s is = none x s ((split_once_again 10 front after other behind clear plain (sym e ∙ f)).0 ∙ is)
-
-pub none_at_end : {X : Type 0} (line : X → List ℕ) (P : X → Type 0) (rest : List ℕ) → Avoids 10 rest → HasNoneAhead line P rest
-none_at_end line P rest clear other behind f plain x s is = has_mark 10 other behind (subst (Avoids 10) f clear)
-
--- Siblings --------------------------------------------------------------------------------------
 
 -- the lines of one sibling, before further ones
 one_sibling : (ps : List Position) (x : ListedSibling) (xs : List ListedSibling) → sibling_lines ps (x ∷ xs) ≡ sibling_lines ps (x ∷ []) ++ sibling_lines ps xs
@@ -102,11 +59,15 @@ one_more_kept ps before rest after number at next got new x so one grew =
 pub are_siblings : (ps : List Position) (before after : List ℕ) (number next : ℕ) (got : List ListedSibling) → AreSiblingsSoFar ps before after number next got → HasNoLeastAhead ps after → AreSiblings ps before after number next got
 are_siblings ps before after number next got so stops = record { right = so.right; read = so.read; stops = stops; idle = so.idle; counted = so.counted }
 
+map-same : {X : Type 0} (xs : List X) → map (λ (x : X). x) xs ≡ xs
+map-same [] = refl
+map-same (x ∷ xs) = ap (λ ys. x ∷ ys) (map-same xs)
+
 -- a sibling's line and the section of its operations
 pub is_sibling : (ps : List Position) (before middle after : List ℕ) (number at next : ℕ) (x : ListedSibling) → IsSpelledLeast ps (x.rank, x.position) → before ≡ least_line ps (x.rank, x.position) ++ 10 ∷ middle → at ≡ number + 1
     → IsSection (operation_line ps) (IsSpelledOperation ps) (λ (operation : Operation). operation) middle after at next x.operations → IsSibling ps before after number next x
 is_sibling ps before middle after number at next x least e counted s =
-    let same : s.said ≡ x.operations = map-same s.said ∙ sym s.kept in
+    let same : s.said ≡ x.operations = sym (s.kept ∙ map-same s.said) in
     let lines : map (operation_line ps) s.said ≡ map (operation_line ps) x.operations ++ [] = ap (map (operation_line ps)) same ∙ sym (append-nil (map (operation_line ps) x.operations)) in
     record {
       right = record { least = least; operations = subst (All (IsSpelledOperation ps)) same s.right };

@@ -8,7 +8,7 @@ use Rattle.text_lines.specs.Names.{IsNamed}
 use Rattle.text_lines.specs.WordRuns.{run_text}
 use Rattle.position_set.specs.declared.set.PositionSet.{PositionSet}
 use Rattle.position_set.specs.Sets.{members}
-use Rattle.certificate.specs.Starts.{StartsAfter}
+use Rattle.certificate.specs.Starts.{StatesAfter}
 use Rattle.certificate.specs.CertificateText.{claim_line, IsSpelledClaim}
 use Rattle.certificate.specs.declared.parts.Claim.{Claim}
 use Rattle.certificate.specs.declared.parts.Claim.TheVariants.{Best, NoneFits}
@@ -126,7 +126,5 @@ pub record IsSpelled (positions : List Position) (c : ListedTrees) : Type 0 wher
 -- The text --------------------------------------------------------------------------------------
 
 -- the text spells the certificate: its lines are the last ones of the text, and each part of it can be spelled
-pub record Spells (positions : List Position) (text : List ℕ) (c : ListedTrees) : Type 0 where
-  pub before : List (List ℕ)
-  pub starts : StartsAfter start_line before text (text_of (tree_lines positions c))
-  pub spelled : IsSpelled positions c
+abbrev pub Spells : List Position → List ℕ → ListedTrees → Type 0
+Spells positions = StatesAfter start_line (IsSpelled positions) (tree_lines positions)

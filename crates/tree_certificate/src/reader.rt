@@ -34,7 +34,23 @@ pub fn read_trees(alloc: Global, task: &Task, text: &[u8]) -> Result<TreeCertifi
     ensures complete { (c : ListedTrees) → Spells task.now.hold.positions text.now c
         → MatchResult result (λ got. listed_trees got ≡ c) (λ fault. fault ≡ CertFault.NoMemory) }
 {
-    let positions = task.hold().named_positions();
+    read_over(alloc, task.hold().named_positions(), text)
+}
+
+/// The same, over the positions of a lawful hold.
+fn read_over(
+    alloc: Global,
+    positions: &[Position],
+    text: &[u8],
+) -> Result<TreeCertificate, CertFault>
+    requires few { length positions.now ≤ 64 }
+    requires named { All (λ (q : Position). IsName q.name) positions.now }
+    requires differ { AllPairs (λ (a b : Position). a.name ≢ b.name) positions.now }
+    ensures read { IfOk result (λ got. Spells positions.now text.now (listed_trees got)) }
+    ensures refused { IfErr result (IsRefused positions.now text.now) }
+    ensures complete { (c : ListedTrees) → Spells positions.now text.now c
+        → MatchResult result (λ got. listed_trees got ≡ c) (λ fault. fault ≡ CertFault.NoMemory) }
+{
     let Some(mut lines) = after_start(text, START) else {
         return Err(CertFault::NoStart);
     };
@@ -126,12 +142,26 @@ fn read_lines(
     ensures refused { IfErr result (Fails (AreTreeLines positions.now) lines.old.rest.now lines.old.number) }
 {
     let names = NameTable::new(alloc, positions)?;
-    let claim = next_claim(&names, lines)?;
-    let cliques = read_section(alloc, &CliqueLines(&names), lines)?;
-    let prices = next_price_lists(alloc, &names, lines)?;
+    read_named(alloc, &names, lines)
+}
+
+/// The same, with the positions by their names.
+fn read_named(
+    alloc: Global,
+    names: &NameTable<'_>,
+    lines: &mut Lines<'_>,
+) -> Result<TreeCertificate, LineFault>
+    requires { All (λ (q : Position). IsName q.name) names.now.positions.now }
+    ensures read { IfOk result (λ c. IsSpelled names.now.positions.now (listed_trees c)
+        × (lines.old.rest.now ≡ text_of (tree_lines names.now.positions.now (listed_trees c)))) }
+    ensures refused { IfErr result (Fails (AreTreeLines names.now.positions.now) lines.old.rest.now lines.old.number) }
+{
+    let claim = next_claim(names, lines)?;
+    let cliques = read_section(alloc, &CliqueLines(names), lines)?;
+    let prices = next_price_lists(alloc, names, lines)?;
     expect_line(root_word(&claim), lines)?;
-    let root = read_section(alloc, &OperationLines(&names), lines)?;
-    let siblings = next_siblings(alloc, &names, lines)?;
+    let root = read_section(alloc, &OperationLines(names), lines)?;
+    let siblings = next_siblings(alloc, names, lines)?;
     expect_line(b"END", lines)?;
     if !lines.rest.is_empty() {
         return Err(LineFault::Line(lines.number));

@@ -7,7 +7,7 @@ use Rattle.trim.specs.Limits.{HasFewPassengers}
 use Rattle.trim.specs.declared.figures.LooseFigure.{LooseFigure}
 use Rattle.flight_row.specs.RowText.{zone_line, container_line, loose_line}
 use Rattle.flight_row.specs.Spelled.{IsSpelledContainer, IsSpelledLoad}
-use Rattle.flight_row.specs.Reading.{ArePart}
+use Rattle.text_lines.specs.Sections.{ArePart}
 use Rattle.flight_row.proofs.StepLemmas.{at_dry, at_fuel, at_limits, past_dry, past_fuel, figures_read, figures_spelled}
 use Rattle.flight_row.proofs.reader.read_figures.Goals as goal
 

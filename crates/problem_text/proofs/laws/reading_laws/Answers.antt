@@ -1,5 +1,4 @@
-use Rattle.problem_text.proofs.RefusalLemmas.{spelled_once, lawful_not_refused, refused_once}
-use Rattle.problem_text.proofs.SomeAnswer.{some_answer}
+use Rattle.problem_text.proofs.RefusalLemmas.{spelled_once, lawful_not_refused, refused_once, some_answer}
 use Rattle.problem_text.proofs.laws.reading_laws.Goals as goal
 
 pub returns-clause-one_task : goal.returns-clause-one_task

@@ -1,6 +1,6 @@
 use Rattle.std.proofs.Common.{◌≡◌, ◌∷◌, ◌++◌, lit<}
 use Rattle.mass_units.specs.Spelling.{number_text}
-use Rattle.problem_text.proofs.WordLemmas.{id_avoids}
+use Rattle.text_lines.proofs.SpelledWords.{id_avoids}
 use Rattle.text_lines.proofs.NameLemmas.{none_so}
 use Rattle.problem_text.proofs.line_readers.read_item.Goals as goal
 

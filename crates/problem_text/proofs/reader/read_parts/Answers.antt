@@ -1,63 +1,82 @@
-use Rattle.std.proofs.Common.{refl, sym, ◌∙◌, lit<}
+use Rattle.std.proofs.Common.{◌∙◌, refl, sym}
 use Rattle.std.proofs.lemmas.Result.{err_from_is_err_and}
-use Rattle.problem_text.specs.Refusals.IsRefused.{no_memory}
+use Rattle.text_lines.specs.Grammar.Fails.{no_memory}
+use Rattle.text_lines.specs.declared.fault.LineFault.TheVariants.{NoMemory}
+use Rattle.text_lines.proofs.PartSteps.{whole_part}
+use Rattle.text_lines.proofs.Rests.{SaysOne, fails_at}
+use Rattle.problem_text.specs.TaskText.{position_line, IsSpelledPosition}
+use Rattle.problem_text.specs.Reading.{IsVersionLine}
+use Rattle.problem_text.specs.Grammar.{version_line}
+use Rattle.problem_text.specs.Refusals.IsRefused.{wrong_lines}
 use Rattle.problem_text.specs.Parts.{AreSections}
 use Rattle.problem_text.specs.declared.parts.Parts.{Parts}
-use Rattle.problem_text.proofs.ReadLemmas.{refused_at_header, refused_after_positions, fails_before_sections, clear_of, AreRead, task_read}
+use Rattle.problem_text.proofs.RefusalLemmas.{empty_task, empty_is, fails_text}
+use Rattle.problem_text.proofs.TaskParts.{IsAnyVersion, starts_with_version, to_limits}
+use Rattle.problem_text.proofs.ReadLemmas.{fails_before_last, read_to_last, task_read, task_kept}
 use Rattle.problem_text.proofs.reader.read_parts.Goals as goal
 
 pub returns-in_err-version-clause-refused : goal.returns-in_err-version-clause-refused
 returns-in_err-version-clause-refused c =
+    let l0 = c.new-lines.result in
+    let fault = c.in_err-version.field-0.0 in
     let p = err_from_is_err_and c.from_residual.result c.from_residual.ensures.1 in
-    rw (p.1, p.2) (refused_at_header c.args.text.now c.new-lines.result.number c.in_err-version.field-0.0 c.new-lines.ensures.first (rw c.new-lines.ensures.whole at c.in_err-version.ensures.refused))
+    rw (p.1, p.2) (wrong_lines fault (fails_text c.args.text.now l0 fault c.new-lines.ensures.whole c.new-lines.ensures.first
+    (fails_at IsVersionLine starts_with_version empty_task empty_is (λ version right. (version, refl)) l0 fault c.in_err-version.ensures.refused)))
 
 pub returns-in_err-positions-clause-refused : goal.returns-in_err-positions-clause-refused
 returns-in_err-positions-clause-refused c =
     let p = err_from_is_err_and c.from_residual-in_err-positions.result c.from_residual-in_err-positions.ensures.1 in
-    rw (p.1, p.2) no_memory
+    rw (p.1, p.2) (wrong_lines NoMemory no_memory)
 
 pub returns-in_err-sections-clause-refused : goal.returns-in_err-sections-clause-refused
 returns-in_err-sections-clause-refused c =
+    let ps = c.in_ok-positions.positions.items in
+    let l0 = c.new-lines.result in
+    let l1 = c.next_version.new.lines in
+    let l2 = c.read_section.new.lines in
+    let version = c.in_ok-version.version in
+    let header : SaysOne version_line IsAnyVersion l0 l1 version = record { right = tt; read = c.in_ok-version.ensures.read; counted = c.in_ok-version.ensures.counted } in
+    let part = whole_part position_line IsSpelledPosition l1.rest.now l2.rest.now l1.number l2.number ps c.in_ok-positions.ensures in
+    let to_here = to_limits l2 version header part in
+    let fault = c.in_err-sections.field-0.0 in
     let p = err_from_is_err_and c.from_residual-in_err-sections.result c.from_residual-in_err-sections.ensures.1 in
-    let header = sym c.new-lines.ensures.whole ∙ c.in_ok-version.ensures.read in
-    rw (p.1, p.2) (refused_after_positions c.args.text.now c.next_version.new.lines.rest.now c.read_section.new.lines.rest.now c.in_ok-version.version c.new-lines.result.number c.next_version.new.lines.number c.read_section.new.lines.number c.in_ok-positions.positions.items
-    c.in_err-sections.field-0.0 c.new-lines.ensures.first header c.in_ok-version.ensures.counted c.in_ok-positions.ensures (rw (sym c.deref.ensures.value) c.in_err-sections.ensures.refused))
+    rw (p.1, p.2) (wrong_lines fault (fails_text c.args.text.now l0 fault c.new-lines.ensures.whole c.new-lines.ensures.first (to_here.fails fault (rw (sym c.deref.ensures.value) c.in_err-sections.ensures.refused))))
 
 pub returns-in_err-indices-clause-refused : goal.returns-in_err-indices-clause-refused
 returns-in_err-indices-clause-refused c =
-    let p = err_from_is_err_and c.from_residual-in_err-indices.result c.from_residual-in_err-indices.ensures.1 in
-    let header = sym c.new-lines.ensures.whole ∙ c.in_ok-version.ensures.read in
     let ps = c.in_ok-positions.positions.items in
-    let start = c.next_version.new.lines in
-    let behind = c.read_section.new.lines in
-    let rest = c.read_sections.new.lines in
+    let l0 = c.new-lines.result in
+    let l1 = c.next_version.new.lines in
+    let l2 = c.read_section.new.lines in
+    let version = c.in_ok-version.version in
+    let header : SaysOne version_line IsAnyVersion l0 l1 version = record { right = tt; read = c.in_ok-version.ensures.read; counted = c.in_ok-version.ensures.counted } in
+    let part = whole_part position_line IsSpelledPosition l1.rest.now l2.rest.now l1.number l2.number ps c.in_ok-positions.ensures in
+    let to_here = to_limits l2 version header part in
+    let l3 = c.read_sections.new.lines in
+    let got = c.in_ok-sections.sections in
+    let sections : AreSections version ps l2 l3 got = rw (sym c.deref.ensures.value) c.in_ok-sections.ensures.read in
     let fault = c.in_err-indices.field-0.0 in
-    let sections : AreSections c.in_ok-version.version ps behind.rest.now rest.rest.now behind.number rest.number c.in_ok-sections.sections = rw (sym c.deref.ensures.value) c.in_ok-sections.ensures.read in
-    let spaces = clear_of 32 start.rest.now behind.rest.now start.number behind.number ps (lit< tt) c.in_ok-positions.ensures in
-    let feeds = clear_of 10 start.rest.now behind.rest.now start.number behind.number ps (lit< tt) c.in_ok-positions.ensures in
-    let fails = fails_before_sections c.in_ok-version.version ps spaces feeds behind.rest.now rest.rest.now behind.number rest.number c.in_ok-sections.sections fault sections c.in_err-indices.ensures.refused in
-    rw (p.1, p.2) (refused_after_positions c.args.text.now c.next_version.new.lines.rest.now c.read_section.new.lines.rest.now c.in_ok-version.version c.new-lines.result.number c.next_version.new.lines.number c.read_section.new.lines.number c.in_ok-positions.positions.items
-    fault c.new-lines.ensures.first header c.in_ok-version.ensures.counted c.in_ok-positions.ensures fails)
+    let p = err_from_is_err_and c.from_residual-in_err-indices.result c.from_residual-in_err-indices.ensures.1 in
+    rw (p.1, p.2) (wrong_lines fault (fails_text c.args.text.now l0 fault c.new-lines.ensures.whole c.new-lines.ensures.first
+    (to_here.fails fault (fails_before_last version ps part.right l2 l3 got sections fault c.in_err-indices.ensures.refused))))
 
 pub returns-clause-read : goal.returns-clause-read
 returns-clause-read c =
     let ps = c.in_ok-positions.positions.items in
-    let start = c.next_version.new.lines in
-    let behind = c.read_section.new.lines in
-    let rest = c.read_sections.new.lines in
-    let r : AreRead c.args.text.now c.in_ok-version.version ps c.in_ok-sections.sections c.in_ok-indices.indices = record {
-      start = start.rest.now;
-      behind = behind.rest.now;
-      rest = rest.rest.now;
-      first = start.number;
-      second = behind.number;
-      next = rest.number;
-      header = sym c.new-lines.ensures.whole ∙ c.in_ok-version.ensures.read;
-      positions = c.in_ok-positions.ensures;
-      sections = rw (sym c.deref.ensures.value) c.in_ok-sections.ensures.read;
-      right = c.in_ok-indices.ensures.read.0;
-      end = c.in_ok-indices.ensures.read.1;
-    } in
-    let task = task_read c.args.text.now c.in_ok-version.version ps c.in_ok-sections.sections c.in_ok-indices.indices r in
-    let parts : Parts = record { positions = c.in_ok-positions.positions; sections = c.in_ok-sections.sections; indices = c.in_ok-indices.indices } in
-    (task.0, task.1, task.2 parts refl refl refl)
+    let l0 = c.new-lines.result in
+    let l1 = c.next_version.new.lines in
+    let l2 = c.read_section.new.lines in
+    let version = c.in_ok-version.version in
+    let header : SaysOne version_line IsAnyVersion l0 l1 version = record { right = tt; read = c.in_ok-version.ensures.read; counted = c.in_ok-version.ensures.counted } in
+    let part = whole_part position_line IsSpelledPosition l1.rest.now l2.rest.now l1.number l2.number ps c.in_ok-positions.ensures in
+    let to_here = to_limits l2 version header part in
+    let l3 = c.read_sections.new.lines in
+    let got = c.in_ok-sections.sections in
+    let sections : AreSections version ps l2 l3 got = rw (sym c.deref.ensures.value) c.in_ok-sections.ensures.read in
+    let at = c.in_ok-indices.indices in
+    let told = c.in_ok-indices.ensures.read in
+    let task = task_read version ps part.right l2 l3 got sections at in
+    let behind = read_to_last version ps part.right l2 l3 got sections at told.0 told.1 in
+    let all = to_here.read task behind.0 behind.1 in
+    let parts : Parts = record { positions = c.in_ok-positions.positions; sections = got; indices = at } in
+    (task, record { is = sym c.new-lines.ensures.whole ∙ all.1; spelled = all.0 }, task_kept version ps part.right l2 l3 got sections parts refl refl)

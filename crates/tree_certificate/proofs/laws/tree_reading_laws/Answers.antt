@@ -1,5 +1,7 @@
-use Rattle.tree_certificate.proofs.ReadLemmas.{spelled_once, spelled_has_no_fault}
-use Rattle.tree_certificate.proofs.AnswerLemmas.{refused_once, some_answer}
+use Rattle.certificate.proofs.AfterStart.{refused_once, states_something}
+use Rattle.tree_certificate.specs.TreeText.{start_line}
+use Rattle.tree_certificate.proofs.TreeParts.{trees, is_read_once, empty, empty_is}
+use Rattle.tree_certificate.proofs.ReadLemmas.{start_plain, spelled_once, spelled_has_no_fault}
 use Rattle.tree_certificate.proofs.laws.tree_reading_laws.Goals as goal
 
 pub returns-clause-one_certificate : goal.returns-clause-one_certificate
@@ -9,7 +11,7 @@ pub returns-clause-no_fault : goal.returns-clause-no_fault
 returns-clause-no_fault c = spelled_has_no_fault
 
 pub returns-clause-one_fault : goal.returns-clause-one_fault
-returns-clause-one_fault c = refused_once
+returns-clause-one_fault c = λ ps names. refused_once start_line start_plain (trees ps) (is_read_once ps names)
 
 pub returns-clause-some_answer : goal.returns-clause-some_answer
-returns-clause-some_answer c = some_answer
+returns-clause-some_answer c = λ ps. states_something start_line (trees ps) empty (empty_is ps)

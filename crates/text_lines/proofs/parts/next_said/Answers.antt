@@ -2,8 +2,8 @@ use Rattle.std.proofs.Common.{inr}
 use Rattle.std.proofs.lemmas.Result.{err_from_is_err_and}
 use Rattle.text_lines.specs.Lines.IsStopped.{at_line}
 use Rattle.text_lines.proofs.SectionLemmas.{stopped_early}
-use Rattle.flight_row.specs.Reading.{IsOfKind}
-use Rattle.flight_row.proofs.sections.next_said.Goals as goal
+use Rattle.text_lines.specs.Sections.{IsOfKind}
+use Rattle.text_lines.proofs.parts.next_said.Goals as goal
 
 pub returns-in_err-line-clause-refused : goal.returns-in_err-line-clause-refused
 returns-in_err-line-clause-refused g c =

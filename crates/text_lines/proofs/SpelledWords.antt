@@ -1,4 +1,4 @@
--- no word of a task contains a space or the end of a line
+-- names, kinds and identities contain neither a space nor the end of a line
 use Rattle.std.proofs.Common.{◌≡◌, ℕ, ◌-◌, ◌+◌, ◌<◌, ◌≤◌, false, eqb, List, ◌++◌, length, take, drop, sym, ◌∙◌, ap, arith, slice_range, ⊎_elim}
 use Rattle.std.proofs.lemmas.Bool.{ne_eqb}
 use Rattle.std.proofs.lemmas.List.{take-append-drop, drop-drop}
@@ -6,13 +6,13 @@ use Rattle.std.proofs.lemmas.List.Elements.{All-weaker, All-append, All-same}
 use Rattle.hold_parts.specs.Spellings.{IsCapital, IsDigit, IsCapitalOrDigit, IsName, IsKind, IsUldId}
 use Rattle.text_lines.specs.Cuts.{Avoids}
 
-capital_avoids : (k c : ℕ) → k < 45 → IsCapital c → eqb c k ≡ false
+pub capital_avoids : (k c : ℕ) → k < 45 → IsCapital c → eqb c k ≡ false
 capital_avoids k c low h = ne_eqb c k (λ e. omega arith)
 
-digit_avoids : (k c : ℕ) → k < 45 → IsDigit c → eqb c k ≡ false
+pub digit_avoids : (k c : ℕ) → k < 45 → IsDigit c → eqb c k ≡ false
 digit_avoids k c low h = ne_eqb c k (λ e. omega arith)
 
-letter_avoids : (k c : ℕ) → k < 45 → IsCapitalOrDigit c → eqb c k ≡ false
+pub letter_avoids : (k c : ℕ) → k < 45 → IsCapitalOrDigit c → eqb c k ≡ false
 letter_avoids k c low h = ⊎_elim (λ (a : IsCapital c). capital_avoids k c low a) (λ (b : IsDigit c). digit_avoids k c low b) h
 
 pub name_avoids : (k : ℕ) (name : List ℕ) → k < 45 → IsName name → Avoids k name

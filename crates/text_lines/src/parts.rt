@@ -2,11 +2,13 @@
 
 ghost use Rattle.std.specs.Prelude.{◌≡◌, ◌+◌, ◌≤◌, ◌⊎◌, ◌∷◌, ◌++◌, List, length, IfOk, IfErr};
 ghost use Rattle.text_lines.specs.Lines.{IsStopped};
-ghost use Rattle.flight_row.specs.Reading.{ArePart, IsOfKind};
+ghost use Rattle.text_lines.specs.Sections.{ArePart, IsOfKind};
 
+use crate::fault::LineFault;
+use crate::lines::Lines;
+use crate::sections::LineReader;
 use desk_base::NoMemory;
 use std::alloc::Global;
-use text_lines::{LineFault, LineReader, Lines};
 
 /// What the next line says. Fails where it is not of this kind.
 pub fn next_said<R: LineReader>(
