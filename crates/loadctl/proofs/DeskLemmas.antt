@@ -20,7 +20,8 @@ use Rattle.desk_run.specs.declared.fault.DeskFault.{DeskFault}
 use Rattle.desk_run.specs.declared.fault.DeskFault.TheVariants.{Fleet, Unread, Keeper, BadTable, TooMany, NoMemory}
 use Rattle.desk_run.proofs.Causes.{refused-no_fleet, refused-reported, servable-fleet, servable-right, servable-few, unrefused-ends, read-failed, write-failed}
 use Rattle.plan_commands.specs.Arguments.{BeginsWithMinus, arguments_of}
-use Rattle.loadctl.specs.Desk.{most_aircraft, surroundings, fault_text, status_of_end, status_of_fault, IsStoreName, AskForDesk, AskForFile, EndsDesk, IsComplete, IsReported, IsUnopened, NoneFailed, Surroundings}
+use Rattle.loadctl.specs.Asked.{AskForDeskOver}
+use Rattle.loadctl.specs.Desk.{most_aircraft, surroundings, fault_text, status_of_end, status_of_fault, IsStoreName, AskForDesk, EndsDesk, IsComplete, IsReported, IsUnopened, NoneFailed, Surroundings}
 use Rattle.loadctl.specs.Desk.IsReported.{whole, cut, no_memory}
 use Rattle.loadctl.specs.Desk.EndsDesk.{served, unopened}
 
@@ -31,17 +32,20 @@ two_and_more (x0 ∷ []) a b d0 d1 n p q = absurd (omega (arith, n))
 two_and_more (x0 ∷ x1 ∷ more) a b d0 d1 n p q = rw (p, q) (ap (λ ys. x0 ∷ x1 ∷ ys) (sym (take_all (length (x0 ∷ x1 ∷ more) - 2) more (omega arith))))
 
 module _ (arguments : List (String Global)) (command store : String Global) (rest : List (String Global)) (parts : arguments ≡ command ∷ store ∷ rest) where
-  pub desk-asked : string_bytes command ≡ codes "desk" → IsStoreName (string_bytes store) → 1 ≤ length rest → length rest ≤ most_aircraft
-      → All (λ argument. BeginsWithMinus argument → ⊥) (arguments_of arguments) → AskForDesk (arguments_of arguments) (arguments_of rest)
-  desk-asked is_desk named some few plain =
+  pub desk-asked : (name : List ℕ) → name ≡ string_bytes store → string_bytes command ≡ codes "desk" → IsStoreName name → 1 ≤ length rest → length rest ≤ most_aircraft
+      → All (λ argument. BeginsWithMinus argument → ⊥) (arguments_of arguments) → AskForDeskOver (arguments_of arguments) name (arguments_of rest)
+  desk-asked name is_store is_desk named some few plain =
       let same : length (arguments_of rest) ≡ length rest = length-map rest string_bytes in
       record {
-        store = string_bytes store;
-        form = ap arguments_of parts ∙ ap (λ a. a ∷ string_bytes store ∷ arguments_of rest) is_desk;
-        named = named;
-        some = omega arith;
-        few = omega arith;
-        plain = plain;
+        desk = record {
+          store = string_bytes store;
+          form = ap arguments_of parts ∙ ap (λ a. a ∷ string_bytes store ∷ arguments_of rest) is_desk;
+          named = subst IsStoreName is_store named;
+          some = omega arith;
+          few = omega arith;
+          plain = plain;
+        };
+        same = sym is_store;
       }
 
   -- the names of a desk are as many as the arguments behind the first two
@@ -62,12 +66,6 @@ module _ (arguments : List (String Global)) (command store : String Global) (res
   desk-head names is =
       let head = same-head names (codes "desk") is.store (sym (ap arguments_of parts) ∙ is.form) in
       (head.0, subst IsStoreName (sym head.1) is.named)
-
-  -- a desk whose store is not the memory has it in a file
-  pub file-asked : (names : List (List ℕ)) → AskForDesk (arguments_of arguments) names → string_bytes store ≢ codes ":memory:" → AskForFile (arguments_of arguments) (string_bytes store)
-  file-asked names is other =
-      let head = same-head names (codes "desk") is.store (sym (ap arguments_of parts) ∙ is.form) in
-      record { names = names; desk = is; same = sym head.1; not_in_memory = other }
 
 module _ (fault : DeskFault) (output output' : Option (List ℕ)) (writes writes' : ℕ) (bytes text : List ℕ) (same : bytes ≡ text) (is : text ≡ fault_text fault) where
   pub reported-whole : (status : ℕ) → status ≡ status_of_fault fault → Appends output output' bytes → writes' ≡ writes → IsReported fault output output' writes writes' status

@@ -23,10 +23,10 @@ use Rattle.desk_run.specs.declared.fault.DeskFault.{DeskFault}
 use Rattle.desk_run.specs.declared.fault.DeskFault.TheVariants.{Unread, Keeper, NoMemory}
 use Rattle.desk_run.proofs.Causes.{refused-no_fleet, refused-reported}
 use Rattle.plan_commands.specs.Arguments.{BeginsWithMinus, arguments_of}
-use Rattle.loadctl.specs.Desk.{most_aircraft, surroundings, IsStoreName, AskForFile, IsReported, Surroundings}
-use Rattle.loadctl.specs.Serve.{most_desks, ports_end, status_of_doors, AskForServe, EndsServe, IsCompleteAtDoors, KeepIn}
+use Rattle.loadctl.specs.Asked.{AskForServeOver}
+use Rattle.loadctl.specs.Desk.{most_aircraft, surroundings, IsStoreName, IsReported, Surroundings}
+use Rattle.loadctl.specs.Serve.{most_desks, ports_end, status_of_doors, AskForServe, EndsServe, IsCompleteAtDoors}
 use Rattle.loadctl.specs.Serve.EndsServe.{served, unopened}
-use Rattle.loadctl.specs.Serve.KeepIn.{one_desk, several}
 use Rattle.loadctl.proofs.DeskLemmas.{unopened-ends, refused-ends}
 
 -- the first four and the others
@@ -39,9 +39,6 @@ four_and_more (x0 ∷ x1 ∷ x2 ∷ []) a b c d d0 d1 d2 d3 n p q r s = absurd (
 four_and_more (x0 ∷ x1 ∷ x2 ∷ x3 ∷ more) a b c d d0 d1 d2 d3 n p q r s =
     rw (p, q, r, s) (ap (λ ys. x0 ∷ x1 ∷ x2 ∷ x3 ∷ ys) (sym (take_all (length (x0 ∷ x1 ∷ x2 ∷ x3 ∷ more) - 4) more (omega arith))))
 
-fourth : (xs : List (List ℕ)) (a b c d : List ℕ) (rest : List (List ℕ)) (P : List ℕ → Type 0) → xs ≡ a ∷ b ∷ c ∷ d ∷ rest → P d → IsSomeAnd (slice_get xs 3) P
-fourth xs a b c d rest P e held = subst (λ ys. IsSomeAnd (slice_get ys 3) P) (sym e) held
-
 -- one text of arguments asks for one number of desks at one port
 pub one_serve : (arguments : List (List ℕ)) (a b p q : ℕ) (names others : List (List ℕ)) → AskForServe arguments a p names → AskForServe arguments b q others
     → (a ≡ b) × (p ≡ q)
@@ -51,24 +48,27 @@ one_serve arguments a b p q names others one other =
 
 module _ (arguments : List (String Global)) (command desks port store : String Global) (rest : List (String Global))
     (parts : arguments ≡ command ∷ desks ∷ port ∷ store ∷ rest) where
-  pub serve-asked : (n p : ℕ) → string_bytes command ≡ codes "serve" → string_bytes desks ≡ number_text n → string_bytes port ≡ number_text p
-      → IsStoreName (string_bytes store) → 1 ≤ n → n ≤ most_desks → 1 ≤ p → p + n ≤ ports_end → 1 ≤ length rest → length rest ≤ most_aircraft
-      → All (λ argument. BeginsWithMinus argument → ⊥) (arguments_of arguments) → AskForServe (arguments_of arguments) n p (arguments_of rest)
-  serve-asked n p is_serve is_n is_p named some_desks few_desks first last some few plain =
+  pub serve-asked : (n p : ℕ) (name : List ℕ) → name ≡ string_bytes store → string_bytes command ≡ codes "serve" → string_bytes desks ≡ number_text n
+      → string_bytes port ≡ number_text p → IsStoreName name → 1 ≤ n → n ≤ most_desks → 1 ≤ p → p + n ≤ ports_end → 1 ≤ length rest → length rest ≤ most_aircraft
+      → All (λ argument. BeginsWithMinus argument → ⊥) (arguments_of arguments) → AskForServeOver (arguments_of arguments) n p name (arguments_of rest)
+  serve-asked n p name is_store is_serve is_n is_p named some_desks few_desks first last some few plain =
       let same : length (arguments_of rest) ≡ length rest = length-map rest string_bytes in
       let more = string_bytes store ∷ arguments_of rest in
       record {
-        store = string_bytes store;
-        form = ap arguments_of parts ∙ ap (λ a. a ∷ string_bytes desks ∷ string_bytes port ∷ more) is_serve
-            ∙ ap (λ b. codes "serve" ∷ b ∷ string_bytes port ∷ more) is_n ∙ ap (λ c. codes "serve" ∷ number_text n ∷ c ∷ more) is_p;
-        some_desks = some_desks;
-        few_desks = few_desks;
-        first = first;
-        last = last;
-        named = named;
-        some = omega arith;
-        few = omega arith;
-        plain = plain;
+        serve = record {
+          store = string_bytes store;
+          form = ap arguments_of parts ∙ ap (λ a. a ∷ string_bytes desks ∷ string_bytes port ∷ more) is_serve
+              ∙ ap (λ b. codes "serve" ∷ b ∷ string_bytes port ∷ more) is_n ∙ ap (λ c. codes "serve" ∷ number_text n ∷ c ∷ more) is_p;
+          some_desks = some_desks;
+          few_desks = few_desks;
+          first = first;
+          last = last;
+          named = subst IsStoreName is_store named;
+          some = omega arith;
+          few = omega arith;
+          plain = plain;
+        };
+        same = sym is_store;
       }
 
   -- the names are as many as the arguments behind the first four
@@ -100,23 +100,6 @@ module _ (arguments : List (String Global)) (command desks port store : String G
   serve-numbers n p names is =
       let all = heads n p names is in
       (all.1, all.2)
-
-  -- the store's name
-  pub serve-store : (n p : ℕ) (names : List (List ℕ)) → (is : AskForServe (arguments_of arguments) n p names) → string_bytes store ≡ is.store
-  serve-store n p names is = (heads n p names is).3
-
-  -- the fourth argument names the file that keeps the rows, where it is not the memory
-  pub serve-kept : (n p : ℕ) (names : List (List ℕ)) → AskForServe (arguments_of arguments) n p names → string_bytes store ≢ codes ":memory:"
-      → IsSomeAnd (slice_get (arguments_of arguments) 3) (KeepIn (arguments_of arguments))
-  serve-kept n p names is other =
-      let kept : KeepIn (arguments_of arguments) is.store = several n p names is refl (λ e. other (serve-store n p names is ∙ e)) in
-      fourth (arguments_of arguments) _ _ _ is.store names (KeepIn (arguments_of arguments)) is.form kept
-
--- the rows are in no file where neither a desk nor several ask for one
-pub kept-nowhere : (arguments : List (List ℕ)) (file : List ℕ) → KeepIn arguments file → ((named : List ℕ) → AskForFile arguments named → ⊥)
-    → ((n p : ℕ) (names : List (List ℕ)) → (asked : AskForServe arguments n p names) → asked.store ≢ codes ":memory:" → ⊥) → ⊥
-kept-nowhere arguments file (one_desk asked) no_file no_serve = no_file file asked
-kept-nowhere arguments file (several n p names asked same other) no_file no_serve = no_serve n p names asked (λ e. other (sym same ∙ e))
 
 -- what holds of no answer, where it holds
 pub none-of : {X : Type 0} {A : Type 0} (answer : Option X) → A → IfNone answer A

@@ -1,9 +1,9 @@
 //! The office of one desk, over one connection.
 
-ghost use Rattle.std.specs.Prelude.{◌≡◌, ◌≢◌, ◌≤◌, ◌↔◌, IsTrue, IfOk, IfErr, OnOk, IfSome, IfNone, List, ℕ, codes, length};
+ghost use Rattle.std.specs.Prelude.{◌≡◌, ◌≤◌, IfOk, IfErr, OnOk};
 ghost use Rattle.desk_run.specs.Runs.{line};
 ghost use Rattle.plan_commands.specs.Arguments.{arguments_of};
-ghost use Rattle.loadctl.specs.Desk.{most_aircraft, surroundings, fault_text, status_of_end, status_of_fault, IsStoreName, AskForDesk, AskForFile, EndsDesk, IsReported};
+ghost use Rattle.loadctl.specs.Desk.{surroundings, fault_text, status_of_end, status_of_fault, EndsDesk, IsReported};
 
 use crate::ran::RanOne;
 use desk_base::NoMemory;
@@ -12,77 +12,8 @@ use desk_run::{ConnEnd, DeskFault, RanDesk, run_desk};
 use keeper::Keeper;
 use load_io::{Shelf, Sink, Source, write_all};
 use placer::Placing;
-use plan_commands::{are_plain, two_word_line};
+use plan_commands::two_word_line;
 use std::alloc::Global;
-
-/// How many aircraft an office has at most.
-const MOST_AIRCRAFT: usize = 64;
-
-/// How many bytes the name of a store has at most.
-const LONGEST_STORE: usize = 255;
-
-/// Whether the word names a store.
-pub fn is_store_name(word: &str) -> bool
-    ensures { IsTrue result ↔ IsStoreName word.now }
-{
-    (1..=LONGEST_STORE).contains(&word.len())
-}
-
-/// Whether the first two arguments ask for a desk over a store.
-fn ask_for_desk(command: &str, store: &str) -> bool
-    ensures { IsTrue result ↔ (command.now ≡ codes "desk") × IsStoreName store.now }
-{
-    command == "desk" && is_store_name(store)
-}
-
-/// Whether so many files are those of a fleet.
-pub fn are_fleet(names: &[String]) -> bool
-    ensures { IsTrue result ↔ (1 ≤ length names.now) × (length names.now ≤ most_aircraft) }
-{
-    (1..=MOST_AIRCRAFT).contains(&names.len())
-}
-
-/// `desk STORE AIRCRAFT ..`: the names of the aircraft's files, if the arguments ask for an office whose rows are kept in
-/// a store.
-pub fn desk_of(arguments: &[String]) -> Option<&[String]>
-    ensures some { IfSome result (λ names. AskForDesk (arguments_of arguments.now) (arguments_of names.now)) }
-    ensures none { IfNone result ((names : List (List ℕ)) → AskForDesk (arguments_of arguments.now) names → ⊥) }
-{
-    let [command, store, names @ ..] = arguments else {
-        return None;
-    };
-    if !ask_for_desk(command.as_str(), store.as_str()) {
-        return None;
-    }
-    if !are_fleet(names) {
-        return None;
-    }
-    if !are_plain(arguments) {
-        return None;
-    }
-    Some(names)
-}
-
-/// Whether the store of this name is a file.
-pub fn is_file(store: &str) -> bool
-    ensures { IsTrue result ↔ store.now ≢ codes ":memory:" }
-{
-    store != ":memory:"
-}
-
-/// Whether the arguments ask for an office whose rows are kept in a file.
-pub fn ask_for_file(arguments: &[String]) -> bool
-    ensures asked { IsTrue result → (file : List ℕ) × AskForFile (arguments_of arguments.now) file }
-    ensures not_asked { (file : List ℕ) → AskForFile (arguments_of arguments.now) file → IsTrue result }
-{
-    let [_, store, ..] = arguments else {
-        return false;
-    };
-    match desk_of(arguments) {
-        Some(_) => is_file(store.as_str()),
-        None => false,
-    }
-}
 
 /// What is printed where the desk was not opened. Nothing is where a file could not be read or memory ran out.
 fn text_of_fault(alloc: Global, fault: &DeskFault) -> Result<Vec<u8>, NoMemory>

@@ -2,6 +2,7 @@
 //! of those who dispatch flights.
 #![tactic(auto)]
 
+mod asked;
 mod desk;
 #[cfg(test)]
 mod examples;

@@ -1,21 +1,77 @@
 //! One run of the program, from its arguments to its exit status.
 
-ghost use Rattle.std.specs.Prelude.{vec_len};
+ghost use Rattle.std.specs.Prelude.{◌≡◌, [], List, ℕ, vec_len};
 ghost use Rattle.plan_commands.specs.Arguments.{arguments_of};
+ghost use Rattle.plan_commands.specs.Commands.{AreCommand};
+ghost use Rattle.plan_commands.specs.Run.{outside, ExitsWith};
 ghost use Rattle.desk_run.specs.Runs.{line};
+ghost use Rattle.loadctl.specs.Asked.{AskOne};
 ghost use Rattle.loadctl.specs.Desk.{surroundings, Runs};
 ghost use Rattle.loadctl.specs.Serve.{AreDoorsFor, RunsAtDoors};
 
-use crate::desk::{desk_of, serve_desk};
+use crate::asked::{Asked, AskedOne, asked_by};
+use crate::desk::serve_desk;
 use crate::ran::{Ran, RanOne};
-use crate::serve::{serve_of, serve_office};
+use crate::serve::serve_office;
 use keeper::Keeper;
 use load_io::{Door, Shelf, Sink, Source};
 use placer::Placing;
-use plan_commands::print;
+use plan_commands::{Command, run_command};
 use std::alloc::Global;
 use std::sync::Wait;
 use std::thread::Threads;
+
+/// Does what a command about one task asks, or says that the arguments are invalid where there is none.
+fn run_task<F: Shelf, O: Sink, K: Keeper, P: Placing>(
+    alloc: Global,
+    command: Option<Command<'_>>,
+    shelf: &mut F,
+    out: &mut O,
+    keeper: K,
+    placing: &P,
+) -> RanOne<K>
+    ensures exits { (arguments : List (List ℕ)) → AreCommand arguments command.entry → ExitsWith arguments
+        (outside (F.files shelf.old) (F.faults shelf.old) (O.content out.old) (O.faults out.old))
+        (outside (F.files shelf.new) (F.faults shelf.new) (O.content out.new) (O.faults out.new))
+        result.status }
+    ensures keeper { result.keeper ≡ keeper }
+    ensures unopened { result.opening.items ≡ [] }
+    ensures unasked { result.history.items ≡ [] }
+{
+    RanOne {
+        status: run_command(alloc, command, shelf, out, placing),
+        keeper,
+        opening: Vec::new(alloc),
+        history: Vec::new(alloc),
+    }
+}
+
+/// Does what is asked that is at no door.
+fn run_asked<Rt, F: Shelf, S: Source, O: Sink, K: Keeper, P: Placing>(
+    rt: &Rt,
+    alloc: Global,
+    asked: AskedOne<'_>,
+    shelf: &mut F,
+    input: &mut S,
+    out: &mut O,
+    keeper: K,
+    placing: &P,
+) -> RanOne<K>
+    ensures { (arguments : List (List ℕ)) → AskOne arguments asked.entry → Runs arguments
+        (surroundings (F.files shelf.old) (F.faults shelf.old) (K.tables keeper) (K.faults keeper)
+        (line (S.left input.old) (O.content out.old) (S.faults input.old) (O.faults out.old)))
+        (surroundings (F.files shelf.new) (F.faults shelf.new) (K.tables result.keeper) (K.faults result.keeper)
+        (line (S.left input.new) (O.content out.new) (S.faults input.new) (O.faults out.new)))
+        result.status result.opening.items result.history.items }
+{
+    match asked {
+        AskedOne::Task(command) => run_task(alloc, Some(command), shelf, out, keeper, placing),
+        AskedOne::Desk(desk) => {
+            serve_desk(rt, alloc, desk.fleet, shelf, input, out, keeper, placing)
+        }
+        AskedOne::Nothing => run_task(alloc, None, shelf, out, keeper, placing),
+    }
+}
 
 /// Does what the arguments ask for, if they ask for no doors. `words` are the arguments without the program's name. Nothing is
 /// printed except on `out`, and only a desk reads the input and uses the keeper.
@@ -36,14 +92,10 @@ pub fn run_one<Rt, F: Shelf, S: Source, O: Sink, K: Keeper, P: Placing>(
         (line (S.left input.new) (O.content out.new) (S.faults input.new) (O.faults out.new)))
         result.status result.opening.items result.history.items }
 {
-    match desk_of(words.as_slice()) {
-        Some(names) => serve_desk(rt, alloc, names, shelf, input, out, keeper, placing),
-        None => RanOne {
-            status: print(alloc, words.as_slice(), shelf, out, placing),
-            keeper,
-            opening: Vec::new(alloc),
-            history: Vec::new(alloc),
-        },
+    match asked_by(words.as_slice()) {
+        Asked::One(asked) => run_asked(rt, alloc, asked, shelf, input, out, keeper, placing),
+        // Where doors are asked for, the arguments are none of a run without them.
+        Asked::Serve(_) => run_task(alloc, None, shelf, out, keeper, placing),
     }
 }
 
@@ -77,15 +129,17 @@ pub fn run<
         (line (S.left input.new) (O.content out.new) (S.faults input.new) (O.faults out.new)))
         doors.items result.doors.items result.status result.opening.items result.history.items }
 {
-    match serve_of(words.as_slice()) {
-        Some(served) => serve_office(rt, alloc, served.names, shelf, out, keeper, doors, placing),
-        None => {
+    match asked_by(words.as_slice()) {
+        Asked::Serve(serve) => {
+            serve_office(rt, alloc, serve.fleet, shelf, out, keeper, doors, placing)
+        }
+        Asked::One(asked) => {
             let RanOne {
                 status,
                 keeper,
                 opening,
                 history,
-            } = run_one(rt, alloc, words, shelf, input, out, keeper, placing);
+            } = run_asked(rt, alloc, asked, shelf, input, out, keeper, placing);
             Ran {
                 status,
                 keeper,

@@ -1,107 +1,20 @@
 //! The office of several desks, each at a door of its own.
 
-ghost use Rattle.std.specs.Prelude.{◌≡◌, ◌≢◌, ◌+◌, ◌<◌, ◌≤◌, ◌↔◌, IsTrue, IfOk, IfErr, OnOk, IfSome, IfNone, IsSomeAnd, List, ℕ, Option, codes, vec_len};
-ghost use Rattle.std.specs.List.{slice_get};
-ghost use Rattle.mass_units.specs.Spelling.{number_text};
+ghost use Rattle.std.specs.Prelude.{◌≡◌, ◌<◌, ◌≤◌, IfOk, IfErr, OnOk, List, ℕ, Option, vec_len};
 ghost use Rattle.desk_run.specs.Runs.{line};
 ghost use Rattle.plan_commands.specs.Arguments.{arguments_of};
-ghost use Rattle.loadctl.specs.Desk.{surroundings, IsStoreName, IsReported};
-ghost use Rattle.loadctl.specs.Serve.{most_desks, ports_end, status_of_doors, AskForServe, AskForNoServe, EndsServe, KeepIn};
+ghost use Rattle.loadctl.specs.Desk.{surroundings, IsReported};
+ghost use Rattle.loadctl.specs.Serve.{status_of_doors, EndsServe};
 
-use crate::desk::{are_fleet, is_file, is_store_name, report};
+use crate::desk::report;
 use crate::ran::Ran;
 use desk_run::{DeskFault, DoorsEnd, RanDoors, run_doors};
 use keeper::Keeper;
 use load_io::{Door, Shelf, Sink};
-use mass_units::read_number;
 use placer::Placing;
-use plan_commands::are_plain;
 use std::alloc::Global;
 use std::sync::Wait;
 use std::thread::Threads;
-
-/// How many desks an office has at most.
-const MOST_DESKS: u8 = 8;
-
-/// The number behind the last port.
-const PORTS_END: u32 = 65_536;
-
-/// What `serve N PORT STORE AIRCRAFT ..` asks for: how many desks, the first one's port, and the names of the aircraft's files.
-#[derive(Clone, Copy)]
-pub struct Served<'a> {
-    pub desks: u8,
-    pub port: u16,
-    pub names: &'a [String],
-}
-
-fn desks_from(argument: &str) -> Option<u8>
-    ensures some { IfSome result (λ n. (argument.now ≡ number_text n) × (1 ≤ n) × (n ≤ most_desks)) }
-    ensures none { IfNone result ((n : ℕ) → 1 ≤ n → n ≤ most_desks → argument.now ≡ number_text n → ⊥) }
-{
-    let number = read_number(argument.as_bytes())?;
-    if number == 0 || number > u32::from(MOST_DESKS) {
-        return None;
-    }
-    Some(number as u8)
-}
-
-/// The first of so many ports.
-fn port_from(argument: &str, desks: u8) -> Option<u16>
-    requires some_desks { 1 ≤ desks }
-    requires few { desks ≤ most_desks }
-    ensures some { IfSome result (λ n. (argument.now ≡ number_text n) × (1 ≤ n) × (n + desks ≤ ports_end)) }
-    ensures none { IfNone result ((n : ℕ) → 1 ≤ n → n + desks ≤ ports_end → argument.now ≡ number_text n → ⊥) }
-{
-    let number = read_number(argument.as_bytes())?;
-    if number == 0 || number > PORTS_END - u32::from(desks) {
-        return None;
-    }
-    Some(number as u16)
-}
-
-/// Whether these are the first argument and the store of an office of several desks.
-fn asks_to_serve(command: &str, store: &str) -> bool
-    ensures { IsTrue result ↔ (command.now ≡ codes "serve") × IsStoreName store.now }
-{
-    command == "serve" && is_store_name(store)
-}
-
-/// `serve N PORT STORE AIRCRAFT ..`: what the arguments ask for, if they ask for an office of several desks.
-pub fn serve_of(arguments: &[String]) -> Option<Served<'_>>
-    ensures some { IfSome result (λ served. AskForServe (arguments_of arguments.now) served.desks served.port (arguments_of served.names.now)) }
-    ensures none { IfNone result (AskForNoServe (arguments_of arguments.now)) }
-{
-    let [command, desks, port, store, names @ ..] = arguments else {
-        return None;
-    };
-    if !asks_to_serve(command.as_str(), store.as_str()) {
-        return None;
-    }
-    if !are_fleet(names) {
-        return None;
-    }
-    if !are_plain(arguments) {
-        return None;
-    }
-    let desks = desks_from(desks.as_str())?;
-    let port = port_from(port.as_str(), desks)?;
-    Some(Served { desks, port, names })
-}
-
-/// Whether the arguments ask for an office of several desks whose rows are kept in a file.
-pub fn serve_from_file(arguments: &[String]) -> bool
-    ensures asked { IsTrue result → IsSomeAnd (slice_get (arguments_of arguments.now) 3) (KeepIn (arguments_of arguments.now)) }
-    ensures not_asked { (desks port : ℕ) (names : List (List ℕ)) → (asked : AskForServe (arguments_of arguments.now) desks port names)
-        → asked.store ≢ codes ":memory:" → IsTrue result }
-{
-    let [_, _, _, store, ..] = arguments else {
-        return false;
-    };
-    match serve_of(arguments) {
-        Some(_) => is_file(store.as_str()),
-        None => false,
-    }
-}
 
 /// The exit status of a run of several desks. Where their office was not opened, prints why.
 fn status_of<O: Sink>(alloc: Global, ending: Result<DoorsEnd, DeskFault>, out: &mut O) -> u8

@@ -11,4 +11,5 @@ pub mod TreeJobLemmas
 pub mod AnswerLemmas
 pub mod OneJob
 pub mod ReplyLemmas
+pub mod CommandLemmas
 pub mod RunLemmas

@@ -1,5 +1,5 @@
 -- Replies to the arguments: there is one job for them, and its input is right or refused, never both.
-use Rattle.std.proofs.Common.{◌≡◌, ◌≢◌, ℕ, List, Option, Some, None, arith, lit<, refl, sym, subst}
+use Rattle.std.proofs.Common.{◌≡◌, ◌≢◌, ℕ, List, Option, Some, None, arith, refl, sym, subst}
 use Rattle.std.specs.Option.{IsSomeAnd}
 use Rattle.std.specs.Prelude.{All}
 use Rattle.std.proofs.lemmas.List.Elements.{All-weaker}
@@ -12,7 +12,6 @@ use Rattle.problem_text.specs.declared.fault.TextFault.TheVariants as text
 use Rattle.problem_text.proofs.RefusalLemmas.{spelled_once, lawful_not_refused}
 use Rattle.certificate.specs.declared.fault.CertFault.TheVariants as cert
 use Rattle.certificate.specs.declared.parts.Certificate.{Certificate}
-use Rattle.certificate.proofs.PathLemmas.{clear_names}
 use Rattle.certificate.proofs.ReadLemmas.{spelled_has_no_fault}
 use Rattle.tree_certificate.specs.Listed.{ListedTrees}
 use Rattle.tree_certificate.proofs.ReadLemmas.{spelled_has_no_fault as trees_have_no_fault}
@@ -63,7 +62,7 @@ certificate-not_refused : (t : Problem) (bytes line : List ℕ) (c : Certificate
 certificate-not_refused t bytes _ c named right (certificate_too_long long) = absurd (omega (arith, right.short))
 certificate-not_refused t bytes _ c named right (no_certificate fault line short why is) =
     let ps = t.hold.positions in
-    let none : fault ≡ cert.NoMemory = spelled_has_no_fault ps (clear_names 32 ps (lit< tt) named) (clear_names 10 ps (lit< tt) named) bytes c fault right.spelled why in
+    let none : fault ≡ cert.NoMemory = spelled_has_no_fault ps named bytes c fault right.spelled why in
     rw none at is
 
 trees-not_refused : (t : Problem) (bytes line : List ℕ) (c : ListedTrees) → All (λ (q : Position). IsName q.name) t.hold.positions

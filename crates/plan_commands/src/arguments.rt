@@ -145,14 +145,3 @@ pub fn command_of(arguments: &[String]) -> Option<Command<'_>>
     }
     form_of(arguments)
 }
-
-/// Whether the arguments are a command about one task.
-pub fn are_command(arguments: &[String]) -> bool
-    ensures asked { IsTrue result → (job : Job) × IsCommand (arguments_of arguments.now) job }
-    ensures invalid { result ≡ false → AreInvalid (arguments_of arguments.now) }
-{
-    match command_of(arguments) {
-        Some(_) => true,
-        None => false,
-    }
-}

@@ -13,8 +13,8 @@ mod reply_text;
 mod spelled;
 mod tree_jobs;
 
-pub use arguments::{are_command, are_plain};
+pub use arguments::{Command, are_plain, command_of};
 pub use ending::{Outcome, Stop};
 pub use first_words::arguments_from;
-pub use printing::{exit_status, print};
+pub use printing::{exit_status, print, run_command};
 pub use reply_text::two_word_line;

@@ -1,13 +1,14 @@
-//! The reply to the arguments, and its printing.
+//! The reply to a command, and its printing.
 
-ghost use Rattle.std.specs.Prelude.{◌≡◌, ◌≢◌, Err, IfOk};
+ghost use Rattle.std.specs.Prelude.{◌≡◌, ◌≢◌, ℕ, List, None, Err, IfOk};
 ghost use Rattle.desk_base.specs.Faults.{Rose};
-ghost use Rattle.plan_commands.specs.Arguments.{arguments_of, AreInvalid};
+ghost use Rattle.plan_commands.specs.Arguments.{arguments_of};
+ghost use Rattle.plan_commands.specs.Commands.{AreCommand};
 ghost use Rattle.plan_commands.specs.ReplyText.{usage_text};
 ghost use Rattle.plan_commands.specs.Reply.{IsReplyOver};
 ghost use Rattle.plan_commands.specs.Run.{outside, exit_status, IsRun, ExitsWith};
 
-use crate::arguments::command_of;
+use crate::arguments::{Command, command_of};
 use crate::ending::{Halt, Outcome, Reply, Stop};
 use crate::jobs::answer_to;
 use crate::reply_text::word_line;
@@ -15,26 +16,25 @@ use load_io::{Shelf, Sink, write_all};
 use placer::Placing;
 use std::alloc::Global;
 
-/// The reply to the arguments. Its files are read at most once each, in the order of the arguments.
+/// The reply to a command, or to invalid arguments where there is none. Its files are read at most once each, in the order of
+/// the arguments.
 fn reply_to<F: Shelf, P: Placing>(
     alloc: Global,
-    arguments: &[String],
+    command: Option<Command<'_>>,
     shelf: &mut F,
     placing: &P,
 ) -> Result<Reply, Stop>
-    ensures replied { IfOk result (λ reply. IsReplyOver (arguments_of arguments.now)
-        (F.files shelf.old) reply.outcome reply.text.items) }
-    ensures usage { IfOk result (λ reply. reply.outcome ≡ Outcome.Usage
-        → AreInvalid (arguments_of arguments.now) × (reply.text.items ≡ usage_text)) }
-    ensures invalid { AreInvalid (arguments_of arguments.now)
-        → IfOk result (λ reply. reply.outcome ≡ Outcome.Usage) }
-    ensures unread { AreInvalid (arguments_of arguments.now) → result ≢ Err Stop.ReadFault }
+    ensures replied { (arguments : List (List ℕ)) → AreCommand arguments command.entry
+        → IfOk result (λ reply. IsReplyOver arguments (F.files shelf.old) reply.outcome reply.text.items) }
+    ensures usage { IfOk result (λ reply. reply.outcome ≡ Outcome.Usage → (command.entry ≡ None) × (reply.text.items ≡ usage_text)) }
+    ensures invalid { command.entry ≡ None → IfOk result (λ reply. reply.outcome ≡ Outcome.Usage) }
+    ensures unread { command.entry ≡ None → result ≢ Err Stop.ReadFault }
     ensures unwritten { result ≢ Err Stop.WriteFault }
     ensures counted { result ≡ Err Stop.ReadFault → Rose (F.faults shelf.old) (F.faults shelf.new) }
     ensures uncounted { result ≢ Err Stop.ReadFault → F.faults shelf.new ≡ F.faults shelf.old }
     ensures same { F.files shelf.new ≡ F.files shelf.old }
 {
-    let Some(command) = command_of(arguments) else {
+    let Some(command) = command else {
         return Ok(Reply {
             outcome: Outcome::Usage,
             text: word_line(alloc, b"USAGE")?,
@@ -51,20 +51,20 @@ fn reply_to<F: Shelf, P: Placing>(
     }
 }
 
-/// Prints the reply to the arguments.
+/// Prints the reply to a command, or to invalid arguments.
 fn print_reply<F: Shelf, O: Sink, P: Placing>(
     alloc: Global,
-    arguments: &[String],
+    command: Option<Command<'_>>,
     shelf: &mut F,
     out: &mut O,
     placing: &P,
 ) -> Result<Outcome, Stop>
-    ensures { IsRun (arguments_of arguments.now)
+    ensures { (arguments : List (List ℕ)) → AreCommand arguments command.entry → IsRun arguments
         (outside (F.files shelf.old) (F.faults shelf.old) (O.content out.old) (O.faults out.old))
         (outside (F.files shelf.new) (F.faults shelf.new) (O.content out.new) (O.faults out.new))
         result }
 {
-    let reply = reply_to(alloc, arguments, shelf, placing)?;
+    let reply = reply_to(alloc, command, shelf, placing)?;
     match write_all(out, reply.text.as_slice()) {
         Ok(()) => Ok(reply.outcome),
         Err(_) => Err(Stop::WriteFault),
@@ -89,7 +89,24 @@ pub fn exit_status(ending: Result<Outcome, Stop>) -> u8
     }
 }
 
-/// Prints the reply to the arguments and returns the exit status. Nothing is printed except on `out`.
+/// Does what a command asks, or says that the arguments are invalid where there is none, and returns the exit status. Nothing is
+/// printed except on `out`.
+pub fn run_command<F: Shelf, O: Sink, P: Placing>(
+    alloc: Global,
+    command: Option<Command<'_>>,
+    shelf: &mut F,
+    out: &mut O,
+    placing: &P,
+) -> u8
+    ensures { (arguments : List (List ℕ)) → AreCommand arguments command.entry → ExitsWith arguments
+        (outside (F.files shelf.old) (F.faults shelf.old) (O.content out.old) (O.faults out.old))
+        (outside (F.files shelf.new) (F.faults shelf.new) (O.content out.new) (O.faults out.new))
+        result }
+{
+    exit_status(print_reply(alloc, command, shelf, out, placing))
+}
+
+/// Does what the arguments ask, as `run_command` does.
 pub fn print<F: Shelf, O: Sink, P: Placing>(
     alloc: Global,
     arguments: &[String],
@@ -102,5 +119,5 @@ pub fn print<F: Shelf, O: Sink, P: Placing>(
         (outside (F.files shelf.new) (F.faults shelf.new) (O.content out.new) (O.faults out.new))
         result }
 {
-    exit_status(print_reply(alloc, arguments, shelf, out, placing))
+    run_command(alloc, command_of(arguments), shelf, out, placing)
 }

@@ -1,13 +1,23 @@
-use Rattle.std.proofs.Common.{refl}
-use Rattle.plan_commands.specs.Arguments.{arguments_of}
-use Rattle.loadctl.proofs.NeedLemmas.{needed-desks, needed-no_desks}
+use Rattle.std.proofs.Common.{rules}
+use Rattle.loadctl.proofs.AskedLemmas.{ask-task, ask-desk, ask-nothing}
+use Rattle.loadctl.proofs.NeedLemmas.{needed-task, needed-desk}
 use Rattle.loadctl.proofs.words.needs_of.Goals as goal
 
-pub returns-in-Some : goal.returns-in-Some
-returns-in-Some c =
-    needed-desks (arguments_of c.args.words.now) c.in-Some.served.desks c.in-Some.served.port (arguments_of c.in-Some.served.names.now) c.store_place-store.result
-    c.in-Some.ensures.some c.store_place-store.ensures.some c.store_place-store.ensures.none
+pub returns-in-Task-clause-needed : goal.returns-in-Task-clause-needed
+returns-in-Task-clause-needed c arguments are = needed-task arguments _ (ask-task arguments c.args.one c.in-Task.field-0 are c.in-Task.is)
 
-pub returns-in-None : goal.returns-in-None
-returns-in-None c =
-    needed-no_desks (arguments_of c.args.words.now) c.store_place-store.result c.in-None.ensures.none c.store_place-store.ensures.some c.store_place-store.ensures.none
+pub returns-in-Task-clause-invalid : goal.returns-in-Task-clause-invalid
+returns-in-Task-clause-invalid c arguments are nothing =
+    absurd (nothing.no_command _ (ask-task arguments c.args.one c.in-Task.field-0 are c.in-Task.is))
+
+pub returns-in-Desk-clause-needed : goal.returns-in-Desk-clause-needed
+returns-in-Desk-clause-needed c arguments are =
+    let place = c.place_of_file.ensures in
+    needed-desk arguments _ _ (ask-desk arguments c.args.one c.in-Desk.desk are c.in-Desk.is) _ place.some place.none
+
+pub returns-in-Desk-clause-invalid : goal.returns-in-Desk-clause-invalid
+returns-in-Desk-clause-invalid c arguments are nothing =
+    absurd (nothing.no_desk _ (ask-desk arguments c.args.one c.in-Desk.desk are c.in-Desk.is).desk)
+
+pub returns-in-Nothing-clause-usage : goal.returns-in-Nothing-clause-usage
+returns-in-Nothing-clause-usage c arguments are _ = ask-nothing arguments c.args.one are c.in-Nothing.is
