@@ -5,7 +5,7 @@ use Rattle.std.specs.Option.{option_or}
 use Rattle.std.specs.Result.{result_err}
 use Rattle.toml.specs.Data.{Data}
 use Rattle.mass_units.specs.declared.Ticks.{Ticks}
-use Rattle.desk_base.specs.Lists.{first_repeat}
+use Rattle.base_words.specs.Lists.{first_repeat}
 use Rattle.payload.specs.declared.figures.Zone.{Zone}
 use Rattle.mass_units.specs.declared.Kg.{Kg}
 use Rattle.mass_units.specs.declared.Band.{Band}

@@ -1,6 +1,6 @@
 -- the keys 22 to 37 of an aircraft file: its zones, its hold, its fuel table, its envelopes, and the lateral limit of its hold
 use Rattle.std.specs.Prelude.{ℕ, zero, suc, ◌+◌, ◌==◌, nat_le, min, Bool, ◌&&◌, true, false, if◌then◌else◌, List, [], ◌∷◌, ◌++◌, length, find, codes, Option, Some, None, is_some, Result, Ok, Err}
-use Rattle.desk_base.specs.Lists.{first_repeat}
+use Rattle.base_words.specs.Lists.{first_repeat}
 use Rattle.toml.specs.Data.{Data}
 use Rattle.envelope.specs.Outline.{Outline}
 use Rattle.fuel_table.specs.declared.row.FuelRow.{FuelRow}

@@ -8,7 +8,7 @@ ghost use Rattle.aircraft_file.specs.Lawful.{IsCorner, IsFuelRow, IsZone};
 use crate::forms::Form;
 use crate::section::Section;
 use crate::values::{read_index, read_mass, read_number, read_pair, read_signed};
-use desk_base::NoMemory;
+use base_words::NoMemory;
 use envelope::Corner;
 use fuel_table::FuelRow;
 use payload::Zone;

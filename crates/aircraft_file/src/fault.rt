@@ -1,7 +1,7 @@
 ghost use Rattle.std.specs.Prelude.{◌≡◌};
 ghost use Rattle.aircraft_file.specs.declared.fault.FileFault.TheVariants.{NoMemory as out_of_memory};
 
-use desk_base::NoMemory;
+use base_words::NoMemory;
 use envelope::EnvFault;
 use fuel_table::FuelFault;
 use hold_limits::HoldFault;

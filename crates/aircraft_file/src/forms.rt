@@ -4,7 +4,7 @@ ghost use Rattle.std.specs.Prelude.{◌≡◌, option_map, All, IfOk, IfSome};
 ghost use Rattle.toml.specs.View.{view, items_view};
 ghost use Rattle.aircraft_file.specs.Forms.{each, array_of};
 
-use desk_base::NoMemory;
+use base_words::NoMemory;
 use std::alloc::Global;
 use toml::Value;
 

@@ -9,7 +9,7 @@ ghost use Rattle.aircraft_file.specs.Lawful.{IsMass};
 use crate::forms::{Form, read_each};
 use crate::side_keys::NamedSide;
 use crate::values::{read_first_and_more, read_mass, read_pair};
-use desk_base::NoMemory;
+use base_words::NoMemory;
 use hold_limits::{Combined, Cumulative, Places};
 use hold_parts::PositionNames;
 use std::alloc::Global;

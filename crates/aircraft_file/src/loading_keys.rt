@@ -17,7 +17,7 @@ use crate::parts::{AllSides, HoldParts, Limits, Parts, Sides};
 use crate::position_form::PositionForm;
 use crate::section::Section;
 use crate::side_keys::read_lateral;
-use desk_base::NoMemory;
+use base_words::NoMemory;
 use fuel_table::FuelRow;
 use hold_limits::Cumulative;
 use hold_parts::PositionNames;

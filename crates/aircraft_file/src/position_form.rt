@@ -8,7 +8,7 @@ ghost use Rattle.aircraft_file.specs.Forms.{fit, fits_of, head_of, is_bulk, posi
 use crate::forms::{Form, read_array};
 use crate::section::Section;
 use crate::values::{read_kind, read_mass, read_name, read_number, read_pair, read_signed};
-use desk_base::NoMemory;
+use base_words::NoMemory;
 use hold_limits::{Fit, Fits, Name, Position};
 use std::alloc::Global;
 use toml::{Table, Value};

@@ -12,7 +12,7 @@ use crate::fault::FileFault;
 use crate::hold_forms::SideForm;
 use crate::section::Section;
 use crate::values::read_mass;
-use desk_base::NoMemory;
+use base_words::NoMemory;
 use hold_limits::{Lateral, Position, Sides};
 use hold_parts::{Alike, PositionNames, first_repeat};
 use std::alloc::Global;

@@ -4,7 +4,7 @@ use Rattle.std.proofs.lemmas.Bool.Decides.{leb_tells}
 use Rattle.std.proofs.lemmas.Option.{slice_get-get_or, get_or_from_slice_get}
 use Rattle.std.proofs.lemmas.List.Elements.{All-contains, Contains-push}
 use Rattle.std.specs.Prelude.{All, AllPairs, slice_get}
-use Rattle.desk_base.specs.Lists.{Extends}
+use Rattle.base_words.specs.Lists.{Extends}
 use Rattle.hold_limits.specs.Problem.{Problem}
 use Rattle.hold_limits.specs.Placement.{IsSound}
 use Rattle.hold_limits.proofs.SoundLemmas.{IsSound-extends, IsSound-within, Extends-next, Extends-whole}

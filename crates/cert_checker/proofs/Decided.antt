@@ -8,7 +8,7 @@ use Rattle.std.proofs.lemmas.Option.{slice_get-get_or}
 use Rattle.std.specs.Prelude.{All, slice_get, IfSome, IsSomeAnd}
 use Rattle.std.specs.List.{Contains}
 use Rattle.std.specs.Cmp.Lexicographic.{slice_cmp}
-use Rattle.desk_base.specs.Lists.{Extends}
+use Rattle.base_words.specs.Lists.{Extends}
 use Rattle.hold_parts.specs.declared.parts.Lateral.{Lateral}
 use Rattle.hold_limits.specs.Problem.{Problem}
 use Rattle.hold_limits.specs.Placement.{IsAtMost, IsAdmissible, key, key_cmp}

@@ -4,7 +4,7 @@ use Rattle.std.proofs.lemmas.List.Elements.{All-nil, All-cons, All-head, All-tai
 use Rattle.std.proofs.lemmas.List.Kept.{AllPairs-cons}
 use Rattle.std.specs.Prelude.{All, AllPairs, slice_index_or}
 use Rattle.std.specs.List.{Contains}
-use Rattle.desk_base.proofs.PairLemmas.{AllPairs-head, AllPairs-tail}
+use Rattle.base_words.proofs.PairLemmas.{AllPairs-head, AllPairs-tail}
 use Rattle.cert_checker.specs.FirstReason.{AreExactly}
 
 AllPairs-append : (R : List ℕ → List ℕ → Type 0) (xs ys : List (List ℕ)) → AllPairs R xs → AllPairs R ys → All (λ x. All (R x) ys) xs → AllPairs R (xs ++ ys)

@@ -10,7 +10,7 @@ use Rattle.std.specs.Prelude.{All, AllPairs, slice_get, IsOk, IfOk, IfErr, Ok, E
 use Rattle.certificate.specs.declared.parts.Certificate.{Certificate}
 use Rattle.certificate.specs.Evidence.{claimed}
 use Rattle.cert_checker.specs.Claims.{IsGoodFor}
-use Rattle.desk_base.specs.Lists.{Extends}
+use Rattle.base_words.specs.Lists.{Extends}
 use Rattle.hold_limits.specs.Problem.{Problem}
 use Rattle.hold_limits.specs.Placement.{IsAdmissible}
 use Rattle.hold_limits.specs.Twins.{IsRising}

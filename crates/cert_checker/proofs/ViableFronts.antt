@@ -2,7 +2,7 @@
 use Rattle.std.proofs.Common.{refl, ◌≡◌, ℕ, ℤ, pos, ◌-ℤ◌, List, [], ◌∷◌, ◌++◌, Option, Some, None, sym, subst, arith, append_assoc, append-nil}
 use Rattle.std.proofs.lemmas.Int.{ints}
 use Rattle.std.specs.Prelude.{IfSome, IsSomeAnd}
-use Rattle.desk_base.specs.Lists.{Extends}
+use Rattle.base_words.specs.Lists.{Extends}
 use Rattle.hold_parts.specs.declared.parts.Lateral.{Lateral}
 use Rattle.hold_limits.specs.Problem.{Problem}
 use Rattle.hold_limits.proofs.SoundLemmas.{IsSound-front}

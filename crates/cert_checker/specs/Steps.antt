@@ -1,6 +1,6 @@
 -- what a check knows between its steps
 use Rattle.std.specs.Prelude.{◌≡◌, ℕ, ◌<◌, ◌≤◌, ◌⊎◌, List, [], length, get_or, Option, Some, None, IfSome, IsSomeAnd}
-use Rattle.desk_base.specs.Lists.{Extends}
+use Rattle.base_words.specs.Lists.{Extends}
 use Rattle.hold_limits.specs.Problem.{Problem}
 use Rattle.hold_limits.specs.Placement.{Key, IsAtMost, distance}
 use Rattle.hold_reach.specs.Reach.{IsViable}

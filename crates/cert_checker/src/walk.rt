@@ -4,7 +4,7 @@
 //! meets the cuts one by one in their order, and knows each when it comes to it.
 
 ghost use Rattle.std.specs.Prelude.{◌≡◌, ◌↔◌, ◌+◌, ◌-◌, ◌^◌, ◌<◌, ◌≤◌, ◌⊎◌, ◌++◌, ◌∷◌, [], IsTrue, IfOk, IfErr, Some, ℕ, false, length, slice_get};
-ghost use Rattle.desk_base.specs.Lists.{Extends};
+ghost use Rattle.base_words.specs.Lists.{Extends};
 ghost use Rattle.certificate.specs.Good.{IsBefore, IsUncut};
 ghost use Rattle.cert_checker.specs.FirstReason.{CutsHold, Pass, PrefixFails};
 ghost use Rattle.cert_checker.specs.Steps.{claim_in, cuts_in, IsMeasured, AreFirst, Stops, AllPass};

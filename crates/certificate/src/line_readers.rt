@@ -11,7 +11,7 @@ ghost use Rattle.certificate.specs.Reading.{IsClaimLine, IsExpandedLine};
 
 use crate::name_table::NameTable;
 use crate::parts::Claim;
-use desk_base::NoMemory;
+use base_words::NoMemory;
 use hold_limits::Path;
 use mass_units::read_number;
 use std::alloc::Global;

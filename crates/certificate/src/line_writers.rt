@@ -7,7 +7,7 @@ ghost use Rattle.certificate.specs.Evidence.{claimed, paths_of};
 ghost use Rattle.certificate.specs.CertificateText.{path_line, claim_line, cut_line, expanded_line};
 
 use crate::parts::Claim;
-use desk_base::NoMemory;
+use base_words::NoMemory;
 use hold_limits::{Hold, Path};
 use telex::Builder;
 

@@ -8,7 +8,7 @@ ghost use Rattle.text_lines.specs.Cuts.{Avoids, IsCutAt};
 ghost use Rattle.text_lines.specs.Names.{IsNamed};
 ghost use Rattle.text_lines.specs.WordRuns.{name_text};
 
-use desk_base::NoMemory;
+use base_words::NoMemory;
 use hold_limits::Position;
 use std::alloc::Global;
 use text_lines::{Names, after_prefix, cut};

@@ -8,7 +8,7 @@ ghost use Rattle.certificate.specs.CertificateText.{start_line, certificate_text
 
 use crate::line_writers::{push_claim, push_cuts, push_expanded};
 use crate::parts::Certificate;
-use desk_base::NoMemory;
+use base_words::NoMemory;
 use hold_limits::Task;
 use std::alloc::Global;
 use telex::Builder;

@@ -9,8 +9,8 @@ use Rattle.std.proofs.lemmas.Slice.Zip.{get_or-zip, length-zip}
 use Rattle.std.specs.Prelude.{slice_get}
 use Rattle.std.specs.Int.{int_min}
 use Rattle.std.specs.List.{filter}
-use Rattle.desk_base.specs.Lists.{int_sum_by}
-use Rattle.desk_base.proofs.SignedSums.{int_sum_by-more}
+use Rattle.base_words.specs.Lists.{int_sum_by}
+use Rattle.base_words.proofs.SignedSums.{int_sum_by-more}
 use Rattle.hold_parts.specs.declared.parts.Item.{Item}
 use Rattle.hold_limits.specs.BranchOrder.{ordered}
 use Rattle.hold_limits.specs.Problem.{Problem}

@@ -3,7 +3,7 @@ use Rattle.std.proofs.Common.{◌≡◌, ℕ, pos, ◌-ℤ◌, false, List, [], 
 use Rattle.std.proofs.lemmas.Int.{ints}
 use Rattle.std.specs.Prelude.{slice_get}
 use Rattle.std.specs.List.{list_any}
-use Rattle.desk_base.specs.Lists.{int_sum_by}
+use Rattle.base_words.specs.Lists.{int_sum_by}
 use Rattle.hold_parts.specs.Limits.{is_listed, is_limited, most_of}
 use Rattle.hold_parts.specs.declared.limit.Limit.{Limit}
 use Rattle.hold_parts.specs.declared.limit.Limit.TheVariants.{Listed, Counted}

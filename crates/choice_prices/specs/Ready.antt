@@ -1,7 +1,7 @@
 -- what is prepared of a list of prices for a task
 use Rattle.std.specs.Prelude.{◌≡◌, ◌≤◌, ℤ, pos, ◌-ℤ◌, ◌*ℤ◌, unsigned_abs, length, map, All}
 use Rattle.std.specs.List.{range_with_len}
-use Rattle.desk_base.specs.Lists.{int_sum_by}
+use Rattle.base_words.specs.Lists.{int_sum_by}
 use Rattle.hold_limits.specs.Placement.{loose_moment}
 use Rattle.hold_limits.specs.Problem.{Problem}
 use Rattle.price_trees.specs.Prices.{Choice, Prices, stock, counted_from}

@@ -1,7 +1,7 @@
 -- what a container costs on a position, as so much for each kilogram and a fee
 use Rattle.std.specs.Prelude.{ℕ, ◌≤◌, ℤ, pos, ◌+ℤ◌, ◌-ℤ◌, ◌*ℤ◌, int_le, unsigned_abs, if◌then◌else◌, List, map, slice_index_or}
 use Rattle.std.specs.List.{filter}
-use Rattle.desk_base.specs.Lists.{int_sum_by}
+use Rattle.base_words.specs.Lists.{int_sum_by}
 use Rattle.hold_parts.specs.Limits.{is_listed, is_counted}
 use Rattle.hold_limits.specs.Lateral.{side_at}
 use Rattle.hold_limits.specs.Layout.{Layout}

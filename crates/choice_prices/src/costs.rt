@@ -2,7 +2,7 @@
 
 ghost use Rattle.std.specs.Prelude.{◌≡◌, ◌≤◌, ◌<◌, ◌-ℤ◌, int_le, unsigned_abs, All, length, map};
 ghost use Rattle.std.specs.List.{filter};
-ghost use Rattle.desk_base.specs.Lists.{int_sum_by};
+ghost use Rattle.base_words.specs.Lists.{int_sum_by};
 ghost use Rattle.hold_limits.specs.Faults.{IsLawful};
 ghost use Rattle.hold_reach.specs.Reach.{least};
 ghost use Rattle.position_set.specs.Sets.{members};

@@ -3,7 +3,7 @@
 ghost use Rattle.std.specs.Prelude.{◌≡◌, ◌≤◌, unsigned_abs, slice_get, option_map};
 ghost use Rattle.hold_limits.specs.Placement.{loose_lateral};
 ghost use Rattle.price_trees.specs.Prices.{Choice, stock, lateral_most};
-ghost use Rattle.desk_base.specs.Lists.{int_sum_by};
+ghost use Rattle.base_words.specs.Lists.{int_sum_by};
 ghost use Rattle.choice_prices.specs.Listing.{limited_resource, limited_resources, lateral_resources};
 ghost use Rattle.choice_prices.specs.Tariffs.{resource_of, taken_by_mass};
 

@@ -2,7 +2,7 @@
 
 ghost use Rattle.std.specs.Prelude.{◌≡◌, ◌≤◌, ◌<◌, ◌+ℤ◌, ◌*ℤ◌, ◌∷◌, [], pos, unsigned_abs, if◌then◌else◌, All, length, map};
 ghost use Rattle.std.specs.List.{range_with_len};
-ghost use Rattle.desk_base.specs.Lists.{int_sum_by};
+ghost use Rattle.base_words.specs.Lists.{int_sum_by};
 ghost use Rattle.hold_parts.specs.Limits.{is_listed};
 ghost use Rattle.price_trees.specs.Prices.{counted_from};
 ghost use Rattle.hold_limits.specs.Placement.{influence_at};

@@ -2,7 +2,7 @@
 
 ghost use Rattle.std.specs.Prelude.{◌≡◌, ◌≤◌, ◌<◌, ◌*ℤ◌, ◌∷◌, [], ℕ, pos, unsigned_abs, if◌then◌else◌, All, length};
 ghost use Rattle.std.specs.List.{list_any};
-ghost use Rattle.desk_base.specs.Lists.{int_sum_by};
+ghost use Rattle.base_words.specs.Lists.{int_sum_by};
 ghost use Rattle.hold_limits.specs.Placement.{loose_moment};
 ghost use Rattle.position_set.specs.declared.set.PositionSet.{PositionSet};
 ghost use Rattle.position_set.specs.Sets.{has};

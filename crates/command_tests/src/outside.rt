@@ -1,6 +1,6 @@
 // Files and outputs that fail.
 use crate::runs::{due, ran, ran_on, ran_over};
-use desk_base::NoMemory;
+use base_words::NoMemory;
 use load_io::{FileShelf, MemoryShelf};
 use std::alloc::Global;
 use std::test::Fail;

@@ -1,5 +1,5 @@
 // Texts by name, and what a run over them prints.
-use desk_base::NoMemory;
+use base_words::NoMemory;
 use load_io::{MemoryShelf, MemorySink, Shelf};
 use placer::Direct;
 use plan_commands::print;

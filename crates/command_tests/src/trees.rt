@@ -1,6 +1,6 @@
 // Plans by trees, and certificates of either kind.
 use crate::runs::{check, ran, ran_over};
-use desk_base::NoMemory;
+use base_words::NoMemory;
 use std::alloc::Global;
 use std::test::Fail;
 

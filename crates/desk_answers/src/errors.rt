@@ -5,7 +5,7 @@ ghost use Rattle.http_wire.specs.Answer.{is_answered};
 ghost use Rattle.desk_answers.specs.Words.{body_of, status_of};
 ghost use Rattle.desk_answers.specs.declared.errors.PlainError.TheVariants.{Memory};
 
-use desk_base::NoMemory;
+use base_words::NoMemory;
 use thiserror::Error;
 
 /// An error that is said in one word. To answer it takes no memory.

@@ -9,7 +9,7 @@ ghost use Rattle.desk_answers.specs.Answers.{json_answer};
 ghost use Rattle.desk_answers.specs.Words.{edition_value, error_value, newest, opened_value, reason, rule_items, rules_told, value};
 
 use crate::answer::Answer;
-use desk_base::NoMemory;
+use base_words::NoMemory;
 use keeper::Bytes;
 use serde_json::{Value, json};
 use std::alloc::Global;

@@ -8,7 +8,7 @@ use crate::answer::{Answer, Document};
 use crate::errors::PlainError;
 use crate::json::{edition_answer, opened_answer};
 use crate::refusals::refused_answer;
-use desk_base::NoMemory;
+use base_words::NoMemory;
 use flight_history::Reply;
 use flight_state::FlightKey;
 use keeper::Bytes;

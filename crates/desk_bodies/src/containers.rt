@@ -7,8 +7,8 @@ ghost use Rattle.flight_row.specs.Spelled.{IsSpelledContainer};
 ghost use Rattle.desk_bodies.specs.Containers.{ListsContainers, Records, record_of, titles};
 
 use crate::fault::BodyFault;
+use base_words::NoMemory;
 use csv::{ByteRecord, ReaderBuilder};
-use desk_base::NoMemory;
 use hold_limits::{Item, UldId};
 use mass_units::{Kg, read_number};
 use std::alloc::Global;

@@ -3,7 +3,7 @@
 ghost use Rattle.std.specs.Prelude.{◌≡◌};
 ghost use Rattle.desk_bodies.specs.declared.fault.BodyFault.TheVariants.{NoMemory as out_of_memory};
 
-use desk_base::NoMemory;
+use base_words::NoMemory;
 use thiserror::Error;
 
 /// Why a body is not read.

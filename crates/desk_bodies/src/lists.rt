@@ -11,7 +11,7 @@ use crate::fault::BodyFault;
 use crate::json::read_json;
 use crate::object::Object;
 use crate::values::{read_mass, read_name, read_number, read_triple};
-use desk_base::NoMemory;
+use base_words::NoMemory;
 use payload::{Cabin, ZoneCount};
 use serde_json::Value;
 use std::alloc::Global;

@@ -4,7 +4,7 @@ ghost use Rattle.std.specs.Prelude.{◌≡◌};
 ghost use Rattle.desk_fleet.specs.declared.fault.FleetFault.TheVariants.{NoMemory as out_of_memory};
 
 use aircraft_file::FileFault;
-use desk_base::NoMemory;
+use base_words::NoMemory;
 use thiserror::Error;
 
 /// Why a file is not one of a fleet.

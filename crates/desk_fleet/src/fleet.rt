@@ -1,7 +1,7 @@
 //! The fleet is read, file by file.
 
 ghost use Rattle.std.specs.Prelude.{◌≡◌, ◌≢◌, ◌+◌, ◌≤◌, [], ◌∷◌, ◌++◌, length, false, Ok, Err, IfOk, IfErr, IfSome, OnOk};
-ghost use Rattle.desk_base.specs.Faults.{Rose};
+ghost use Rattle.base_words.specs.Faults.{Rose};
 ghost use Rattle.load_io.specs.Shelf.{IsWhole, HasMoreThan};
 ghost use Rattle.aircraft_file.specs.Craft.{AreApart};
 ghost use Rattle.aircraft_file.specs.Lawful.{IsAnswerTo};
@@ -10,7 +10,7 @@ ghost use Rattle.desk_fleet.specs.declared.fault.FileReason.TheVariants.{Long};
 
 use crate::fault::{FileReason, FleetFault, RefusedFile};
 use aircraft_file::{Aircraft, FileFault, Registration, read_aircraft};
-use desk_base::NoMemory;
+use base_words::NoMemory;
 use load_io::{Shelf, ShelfFault};
 use std::alloc::Global;
 

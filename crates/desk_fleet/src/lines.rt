@@ -5,7 +5,7 @@ ghost use Rattle.desk_fleet.specs.FleetText.{fault_number, reason_words, refusal
 
 use crate::fault::{FileReason, RefusedFile};
 use aircraft_file::FileFault;
-use desk_base::NoMemory;
+use base_words::NoMemory;
 use std::alloc::Global;
 use telex::Builder;
 

@@ -1,6 +1,6 @@
 -- a request that was received and answered is one step
 use Rattle.std.proofs.Common.{◌≡◌, ◌⊎◌, ◌||◌, ℕ, Bool, List, Option, IsTrue, IsFalse, sym, ap, ◌∙◌, subst}
-use Rattle.desk_base.specs.Faults.{Rose}
+use Rattle.base_words.specs.Faults.{Rose}
 use Rattle.load_io.specs.Sink.{Appends, AppendsPart}
 use Rattle.flight_history.specs.declared.entry.Entry.{Entry}
 use Rattle.http_wire.specs.Hearing.{IsNext, to_come}

@@ -1,6 +1,6 @@
 -- what it is that a link is served
 use Rattle.std.specs.Prelude.{◌≡◌, ◌⊎◌, ◌<◌, ◌≤◌, ℕ, true, List, [], ◌∷◌, ◌++◌, length, take, All, Option, Some, IfSome}
-use Rattle.desk_base.specs.Faults.{Rose}
+use Rattle.base_words.specs.Faults.{Rose}
 use Rattle.load_io.specs.Sink.{Appends}
 use Rattle.flight_history.specs.declared.entry.Entry.{Entry}
 use Rattle.http_wire.specs.Answer.{answer_bytes}

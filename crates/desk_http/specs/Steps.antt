@@ -1,6 +1,6 @@
 -- one step of a connection: a request and its answer, or its end
 use Rattle.std.specs.Prelude.{◌≡◌, ◌⊎◌, ◌||◌, ℕ, Bool, IsTrue, IsFalse, List, [], Option, None, Some, IfSome, Result}
-use Rattle.desk_base.specs.Faults.{Rose}
+use Rattle.base_words.specs.Faults.{Rose}
 use Rattle.load_io.specs.Sink.{Appends, AppendsPart}
 use Rattle.flight_history.specs.declared.entry.Entry.{Entry}
 use Rattle.http_wire.specs.Answer.{answer_bytes}

@@ -1,7 +1,7 @@
 //! One connection, from its beginning to its end.
 
 ghost use Rattle.std.specs.Prelude.{◌≡◌, ◌||◌, IfOk, OnOk, OnErr, IsTrue, IsFalse};
-ghost use Rattle.desk_base.specs.Faults.{Rose};
+ghost use Rattle.base_words.specs.Faults.{Rose};
 ghost use Rattle.load_io.specs.Sink.{Appends, AppendsPart};
 ghost use Rattle.http_wire.specs.Answer.{answer_bytes, is_answered};
 ghost use Rattle.desk_answers.specs.Answers.{answered};

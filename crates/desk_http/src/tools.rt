@@ -1,6 +1,6 @@
 //! What connections are served with.
 
-use desk_base::NoMemory;
+use base_words::NoMemory;
 use desk_routes::DeskRouter;
 use http_wire::Wire;
 use std::alloc::Global;

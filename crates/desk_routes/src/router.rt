@@ -5,7 +5,7 @@ ghost use Rattle.desk_routes.specs.Paths.{added, desk_rows};
 ghost use Rattle.desk_routes.specs.Targets.{route_found, route_of};
 
 use crate::route::Route;
-use desk_base::NoMemory;
+use base_words::NoMemory;
 use matchit::Router;
 use std::alloc::Global;
 use std::str;

@@ -1,6 +1,6 @@
 -- which causes exclude each other
 use Rattle.std.proofs.Common.{◌≡◌, ℕ, List, Option, Some, None, IfSome, IsSomeAnd, subst}
-use Rattle.desk_base.specs.Faults.{Rose}
+use Rattle.base_words.specs.Faults.{Rose}
 use Rattle.load_io.specs.Shelf.{Files}
 use Rattle.aircraft_file.specs.Craft.{Craft}
 use Rattle.keeper.specs.Tables.{Tables}

@@ -1,7 +1,7 @@
 //! One run of several desks.
 
 ghost use Rattle.std.specs.Prelude.{◌≡◌, ◌≢◌, ◌<◌, ◌≤◌, ◌^◌, [], Err, vec_len, IfOk, IfErr, OnErr};
-ghost use Rattle.desk_base.specs.Faults.{Rose};
+ghost use Rattle.base_words.specs.Faults.{Rose};
 ghost use Rattle.desk_fleet.specs.Fleet.{names_of};
 ghost use Rattle.desk_run.specs.DoorRuns.{IsRunOfDoors, HaveSameRows};
 ghost use Rattle.desk_run.specs.Faults.{IsNotOpened};
@@ -10,7 +10,7 @@ ghost use Rattle.editions.specs.Books.{HasTables};
 
 use crate::fault::DeskFault;
 use crate::opening::open_office;
-use desk_base::NoMemory;
+use base_words::NoMemory;
 use desk_serve::{DoorsEnd, DoorsRun, serve_doors};
 use editions::Office;
 use flight_history::Entry;

@@ -6,7 +6,7 @@ ghost use Rattle.editions.specs.declared.starting.StartFault.{StartFault};
 ghost use Rattle.desk_run.specs.Faults.{fault_of_fleet, fault_of_start};
 ghost use Rattle.desk_run.specs.declared.fault.DeskFault.TheVariants.{NoMemory as out_of_memory};
 
-use desk_base::NoMemory;
+use base_words::NoMemory;
 use desk_fleet::{FleetFault, RefusedFile};
 use editions::StartFault;
 use keeper::Bytes;

@@ -1,7 +1,7 @@
 //! The office is opened.
 
 ghost use Rattle.std.specs.Prelude.{◌≡◌, ◌≢◌, ◌<◌, ◌≤◌, ◌^◌, Err, IfOk, IfErr, IfSome, Ok};
-ghost use Rattle.desk_base.specs.Faults.{Rose};
+ghost use Rattle.base_words.specs.Faults.{Rose};
 ghost use Rattle.desk_fleet.specs.Fleet.{names_of, IsFleet};
 ghost use Rattle.editions.specs.Books.{HasTables};
 ghost use Rattle.editions.specs.Starting.{IsStarted};

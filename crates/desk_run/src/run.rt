@@ -1,7 +1,7 @@
 //! One run of a desk.
 
 ghost use Rattle.std.specs.Prelude.{◌≡◌, ◌≢◌, ◌≤◌, [], Err, IsOk, IfOk, IfErr, OnErr};
-ghost use Rattle.desk_base.specs.Faults.{Rose};
+ghost use Rattle.base_words.specs.Faults.{Rose};
 ghost use Rattle.desk_fleet.specs.Fleet.{names_of};
 ghost use Rattle.desk_run.specs.Faults.{IsNotOpened};
 ghost use Rattle.editions.specs.Books.{HasTables};

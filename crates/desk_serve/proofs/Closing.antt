@@ -7,7 +7,7 @@ use Rattle.flight_history.specs.declared.entry.Entry.{Entry}
 use Rattle.flight_state.specs.declared.state.FlightState.{FlightState}
 use Rattle.keeper.specs.Tables.{Tables}
 use Rattle.editions.specs.Books.{Books, HasTables}
-use Rattle.desk_base.specs.declared.NoMemory.{NoMemory}
+use Rattle.base_words.specs.declared.NoMemory.{NoMemory}
 use Rattle.atomic_table.specs.Seated.{TableId}
 use Rattle.desk_lock.specs.declared.views.Origin.{Origin}
 use Rattle.desk_lock.specs.Histories.{Continues}

@@ -5,7 +5,7 @@ use Rattle.std.proofs.lemmas.Bool.{false≢true}
 use Rattle.std.proofs.lemmas.List.{map-append}
 use Rattle.std.proofs.lemmas.Grind.{flat_map-append}
 use Rattle.std.proofs.lemmas.List.Elements.{All-weaker, All-push, All-nil, All-append}
-use Rattle.desk_base.specs.Faults.{Rose}
+use Rattle.base_words.specs.Faults.{Rose}
 use Rattle.load_io.specs.Door.{Brings, NoneComes, HandsBack}
 use Rattle.flight_history.specs.declared.entry.Entry.{Entry}
 use Rattle.desk_service.specs.Places.{GoesOn}

@@ -1,6 +1,6 @@
 -- doors and the desks that work at them
 use Rattle.std.specs.Prelude.{◌≡◌, ◌<◌, ℕ, Bool, true, false, List, Option, Some, length, slice_index_or, slice_get}
-use Rattle.desk_base.specs.Faults.{Rose}
+use Rattle.base_words.specs.Faults.{Rose}
 use Rattle.flight_history.specs.declared.entry.Entry.{Entry}
 use Rattle.flight_history.specs.declared.reply.Reply.{Reply}
 use Rattle.flight_history.specs.declared.request.Request.{Request}

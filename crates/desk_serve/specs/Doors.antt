@@ -1,6 +1,6 @@
 -- what it is that a door is served, and that all doors are
 use Rattle.std.specs.Prelude.{◌≡◌, ◌+◌, ◌<◌, ◌≤◌, ℕ, Bool, true, false, List, ◌++◌, Option, Some, length, map, flat_map, sum_by, count_by, All, slice_get}
-use Rattle.desk_base.specs.Faults.{Rose}
+use Rattle.base_words.specs.Faults.{Rose}
 use Rattle.load_io.specs.Door.{NoneComes}
 use Rattle.flight_history.specs.declared.entry.Entry.{Entry}
 use Rattle.desk_service.specs.Places.{GoesOn}

@@ -10,7 +10,7 @@ ghost use Rattle.desk_serve.specs.Service.{IsOneHistory};
 
 use crate::bays::{Bay, are_all_closed, pair, part, work_with_tools};
 use crate::ending::DoorsEnd;
-use desk_base::NoMemory;
+use base_words::NoMemory;
 use desk_http::Tools;
 use desk_lock::{Desk, Room};
 use desk_service::Bench;

@@ -1,7 +1,7 @@
 // Answers to replies and refusals, each as a text: its status, whether it is JSON, and its body.
 use arrayvec::ArrayVec;
+use base_words::NoMemory;
 use desk_answers::{Document, PlainError, answer_to};
-use desk_base::NoMemory;
 use flight_history::{Refusal, Reply};
 use flight_state::FlightKey;
 use keeper::Bytes;

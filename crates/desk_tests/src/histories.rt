@@ -1,7 +1,7 @@
 // The standing of a flight from acts that were all accepted.
 ghost use Rattle.std.specs.Prelude.{◌≡◌, [], IfOk};
 
-use desk_base::NoMemory;
+use base_words::NoMemory;
 use desk_bodies::read_leg;
 use flight_history::{Act, Entry, FigurePart, Outcome, standing_after};
 use flight_state::{FlightKey, FlightState, Leg, Lmc, Lmcs, Stage};

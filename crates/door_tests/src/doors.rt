@@ -1,6 +1,6 @@
 // Two desks, each at a door of its own.
 use crate::examples::{MORNING, MORNING_ANSWERS, joined, link, office};
-use desk_base::NoMemory;
+use base_words::NoMemory;
 use desk_serve::{DoorsRun, serve_doors};
 use editions::Entry;
 use keeper::{FailingKeeper, Keeper};

@@ -3,7 +3,7 @@ ghost use Rattle.std.specs.Prelude.{◌≡◌, [], IfOk};
 ghost use Rattle.editions.specs.Books.{HasTables};
 
 use aircraft_file::read_aircraft;
-use desk_base::NoMemory;
+use base_words::NoMemory;
 use editions::Office;
 use keeper::Keeper;
 use load_io::MemoryLink;

@@ -4,7 +4,7 @@ ghost use Rattle.desk_lock.specs.Rooms.{AreSameDesks};
 ghost use Rattle.flight_history.specs.Asking.{IsWithinLimits};
 
 use crate::examples::office;
-use desk_base::NoMemory;
+use base_words::NoMemory;
 use desk_lock::{Desk, Full, Room};
 use desk_service::Bench;
 use editions::{Entry, Refusal, Reply, Request, What};

@@ -2,7 +2,7 @@
 ghost use Rattle.std.specs.Prelude.{None};
 
 use crate::examples::{MORNING, joined, office};
-use desk_base::NoMemory;
+use base_words::NoMemory;
 use desk_serve::{DoorsRun, serve_doors};
 use keeper::{Keeper, MemoryKeeper};
 use load_io::{Door, Failed, SureDoor, SureLink, TcpDoor};

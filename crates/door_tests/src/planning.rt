@@ -1,7 +1,7 @@
 // Desks at work at the same time: one asks while another one plans, and links wait for one another.
 use crate::examples::{MORNING, MORNING_ANSWERS, PLAN, joined, link, office};
 use crate::flags::{Flag, FlagDoor, FlagLink};
-use desk_base::NoMemory;
+use base_words::NoMemory;
 use desk_serve::{DoorsRun, serve_doors};
 use editions::{Act, Entry};
 use hold_limits::Task;

@@ -2,7 +2,7 @@
 use Rattle.std.proofs.Common.{refl, ◌≡◌, ℕ, Bool, List, Option, None, Some, All, ◌∙◌, sym, ap, subst}
 use Rattle.std.proofs.lemmas.Option.{slice_get_within, get_or_from_slice_get}
 use Rattle.std.specs.Prelude.{IsSomeAnd, slice_get, Result, Ok, Err, IfOk, option_map}
-use Rattle.desk_base.specs.declared.NoMemory.{NoMemory}
+use Rattle.base_words.specs.declared.NoMemory.{NoMemory}
 use Rattle.aircraft_file.specs.Craft.{Craft}
 use Rattle.aircraft_file.specs.Lawful.{IsLawfulCraft}
 use Rattle.flight_state.specs.declared.leg.Leg.{Leg}

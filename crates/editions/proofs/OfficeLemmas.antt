@@ -3,8 +3,8 @@ use Rattle.std.proofs.Common.{refl, ◌≡◌, ℕ, ◌-◌, Bool, List, [], ◌
 use Rattle.std.specs.Prelude.{nat_le, Result, Ok, Err, IfOk}
 use Rattle.std.specs.Option.{option_and_then}
 use Rattle.std.proofs.lemmas.List.{map-append, length-map}
-use Rattle.desk_base.specs.Faults.{Rose}
-use Rattle.desk_base.specs.declared.NoMemory.{NoMemory}
+use Rattle.base_words.specs.Faults.{Rose}
+use Rattle.base_words.specs.declared.NoMemory.{NoMemory}
 use Rattle.aircraft_file.specs.Craft.{Craft}
 use Rattle.flight_state.specs.declared.state.FlightState.{FlightState}
 use Rattle.flight_state.specs.Legs.{key_of}

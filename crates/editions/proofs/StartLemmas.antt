@@ -13,8 +13,8 @@ use Rattle.std.proofs.lemmas.List.Elements.{All-nil, All-cons, All-push, All-hea
 use Rattle.std.proofs.lemmas.Option.{slice_get_read, get_or_from_slice_get}
 use Rattle.std.proofs.lemmas.Cmp.{nat_list_cmp_total, tied_itself}
 use Rattle.std.proofs.lemmas.List.Kept.{AllPairs-cons}
-use Rattle.desk_base.proofs.PairLemmas.{AllPairs-head, AllPairs-tail}
-use Rattle.desk_base.specs.declared.NoMemory as memory
+use Rattle.base_words.proofs.PairLemmas.{AllPairs-head, AllPairs-tail}
+use Rattle.base_words.specs.declared.NoMemory as memory
 use Rattle.aircraft_file.specs.Craft.{Craft}
 use Rattle.aircraft_file.specs.Lawful.{IsLawfulCraft}
 use Rattle.flight_state.specs.declared.state.FlightState.{FlightState}

@@ -1,7 +1,7 @@
 -- one turn
 use Rattle.std.proofs.Common.{refl, if◌then◌else◌, ◌≡◌, ◌≢◌, ℕ, ◌+◌, ◌&&◌, Bool, true, false, List, [], ◌∷◌, ◌++◌, Option, None, Some, cond, ◌∙◌, sym, ap, subst, length}
 use Rattle.std.specs.Prelude.{is_none, bytes_eq, IsSomeAnd, Result, Ok, Err, IfOk}
-use Rattle.desk_base.specs.declared.NoMemory.{NoMemory}
+use Rattle.base_words.specs.declared.NoMemory.{NoMemory}
 use Rattle.aircraft_file.specs.Craft.{Craft}
 use Rattle.flight_state.specs.declared.state.FlightState.{FlightState}
 use Rattle.flight_state.specs.Legs.{key_of}

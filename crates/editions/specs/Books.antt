@@ -1,6 +1,6 @@
 -- an office as its callers see it, and what its turns keep
 use Rattle.std.specs.Prelude.{◌≡◌, ℕ, ◌-◌, List, [], ◌∷◌, ◌++◌, length, All, true, Option, None, Some}
-use Rattle.desk_base.specs.Faults.{Rose}
+use Rattle.base_words.specs.Faults.{Rose}
 use Rattle.aircraft_file.specs.Craft.{Craft}
 use Rattle.flight_state.specs.declared.state.FlightState.{FlightState}
 use Rattle.flight_row.specs.Loading.{Reads}

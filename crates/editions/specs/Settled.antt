@@ -1,6 +1,6 @@
 -- what an answer does to the flights and to the kept rows
 use Rattle.std.specs.Prelude.{◌≡◌, ℕ, List, Option, Some, Result, Ok, Err, All}
-use Rattle.desk_base.specs.declared.NoMemory.{NoMemory}
+use Rattle.base_words.specs.declared.NoMemory.{NoMemory}
 use Rattle.aircraft_file.specs.Craft.{Craft}
 use Rattle.flight_state.specs.declared.state.FlightState.{FlightState}
 use Rattle.flight_state.specs.Legs.{key_of}

@@ -16,7 +16,7 @@ use crate::reasons::{
     is_released, no_more_editions, no_plan, not_current, not_released, not_shown,
 };
 use aircraft_file::Aircraft;
-use desk_base::NoMemory;
+use base_words::NoMemory;
 use flight_history::{Act, FigurePart, Refusal, Reply, What, copy_of, new_flight, replaced};
 use flight_state::{FlightKey, FlightState, Leg, Lmc, Lmcs, Stage, effective};
 use hold_limits::Path;

@@ -15,7 +15,7 @@ ghost use Rattle.editions.specs.Sound.{IsTaskAnswer};
 
 use crate::flights::Flight;
 use aircraft_file::Aircraft;
-use desk_base::NoMemory;
+use base_words::NoMemory;
 use flight_history::Reply;
 use flight_row::write_row;
 use flight_state::{FlightState, effective};

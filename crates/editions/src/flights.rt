@@ -6,7 +6,7 @@ ghost use Rattle.flight_state.specs.Legs.{key_of};
 ghost use Rattle.editions.specs.Places.{states, put_in, HasPlace, IsPlaceOf, IsReserved};
 
 use arrayvec::ArrayVec;
-use desk_base::NoMemory;
+use base_words::NoMemory;
 use flight_state::{FlightKey, FlightState};
 use hold_limits::Task;
 use std::alloc::Global;

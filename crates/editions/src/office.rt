@@ -2,7 +2,7 @@
 
 ghost use Rattle.std.specs.Prelude.{◌≡◌, ◌≢◌, ◌+◌, ◌<◌, ◌≤◌, ◌^◌, [], nat_le, length, vec_len, vec_capacity, All, Err, IfOk, IfErr, IfSome};
 ghost use Rattle.aircraft_file.specs.Craft.{AreApart};
-ghost use Rattle.desk_base.specs.Faults.{Rose};
+ghost use Rattle.base_words.specs.Faults.{Rose};
 ghost use Rattle.editions.specs.Acts.{IsWithinLimits};
 ghost use Rattle.editions.specs.Answers.{IsAnswer, IsLawfulAt, MakesSound};
 ghost use Rattle.editions.specs.Books.{HasTables, IsTurn, KnowsHistory, OpensAsKept};
@@ -19,7 +19,7 @@ use crate::flights::Flights;
 use crate::settling::settle;
 use crate::starting::{StartFault, StartingFlights, starting_flights};
 use aircraft_file::Aircraft;
-use desk_base::NoMemory;
+use base_words::NoMemory;
 use flight_history::{Act, Entry, Reply, Request};
 use flight_state::FlightState;
 use keeper::{KeepFault, Keeper, KeptRow};

@@ -2,7 +2,7 @@
 
 ghost use Rattle.std.specs.Prelude.{◌≡◌, ◌≤◌, List, Some, Err, IfOk, OnOk, OnErr};
 ghost use Rattle.aircraft_file.specs.Craft.{Craft};
-ghost use Rattle.desk_base.specs.Faults.{Rose};
+ghost use Rattle.base_words.specs.Faults.{Rose};
 ghost use Rattle.flight_row.specs.declared.row.Version.TheVariants.{Two};
 ghost use Rattle.flight_row.specs.Loading.{HasRow, KeepsPlan, Reads, aircraft_of, row_of};
 ghost use Rattle.flight_row.specs.RowText.{row_text};
@@ -17,7 +17,7 @@ use crate::documents::{prepared, row_of};
 use crate::fleet::aircraft_of;
 use crate::flights::Flights;
 use aircraft_file::Aircraft;
-use desk_base::NoMemory;
+use base_words::NoMemory;
 use flight_history::{Outcome, Refusal, Reply};
 use flight_state::{FlightKey, FlightState};
 use keeper::{Bytes, KeepFault, Keeper, KeptRow};

@@ -11,7 +11,7 @@ use crate::documents::prepared;
 use crate::fleet::aircraft_of;
 use crate::flights::Flights;
 use aircraft_file::Aircraft;
-use desk_base::NoMemory;
+use base_words::NoMemory;
 use flight_row::{RowFault, read_row};
 use flight_state::{FlightKey, FlightState};
 use keeper::{Bytes, KeptRow};

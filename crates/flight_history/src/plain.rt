@@ -8,7 +8,7 @@ ghost use Rattle.flight_history.specs.Standing.{raises_edition, folds_lates, sta
 
 use crate::entry::{Act, Entry, copy_of};
 use crate::request::replaced;
-use desk_base::NoMemory;
+use base_words::NoMemory;
 use flight_state::{FlightState, Lmcs, Stage, can_add, effective, with_change};
 use hold_limits::Path;
 use hold_parts::Copyable;

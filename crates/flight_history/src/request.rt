@@ -3,8 +3,8 @@
 ghost use Rattle.std.specs.Prelude.{◌≡◌, IfOk};
 ghost use Rattle.flight_history.specs.Step.{replaced};
 
+use base_words::NoMemory;
 use cert_checker::Proven;
-use desk_base::NoMemory;
 use flight_state::{FlightKey, Leg, Lmc};
 use hold_parts::copied;
 use payload::Cabin;

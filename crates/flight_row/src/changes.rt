@@ -7,7 +7,7 @@ ghost use Rattle.flight_row.specs.Spelled.{IsSpelledChange, AreSpelledChanges};
 ghost use Rattle.text_lines.specs.Sections.{ArePart};
 
 use crate::section_lines::read_change;
-use desk_base::NoMemory;
+use base_words::NoMemory;
 use flight_state::{Lmcs, Stage, can_add, with_change};
 use std::alloc::Global;
 use text_lines::Lines;

@@ -4,7 +4,7 @@ ghost use Rattle.std.specs.Prelude.{◌≡◌};
 ghost use Rattle.flight_row.specs.Refusals.{row_fault};
 ghost use Rattle.flight_row.specs.declared.fault.RowFault.TheVariants.{NoMemory as out_of_memory};
 
-use desk_base::NoMemory;
+use base_words::NoMemory;
 use text_lines::LineFault;
 use thiserror::Error;
 

@@ -6,7 +6,7 @@ use crate::single_lines::{
     read_dry, read_edition, read_fuel, read_leg, read_limits, read_plan, read_releases, read_stage,
     read_version,
 };
-use desk_base::NoMemory;
+use base_words::NoMemory;
 use flight_state::{Leg, Lmc, Stage};
 use hold_limits::Item;
 use payload::ZoneCount;

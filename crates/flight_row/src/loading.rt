@@ -14,7 +14,7 @@ ghost use Rattle.flight_row.specs.Loading.{AreNamed, IsLoaded, StillHolds, in_wo
 
 use crate::row::Row;
 use aircraft_file::Aircraft;
-use desk_base::NoMemory;
+use base_words::NoMemory;
 use flight_state::{FlightState, Lmcs, Stage, effective};
 use hold_limits::{Hold, Name, Path, Position};
 use std::alloc::Global;

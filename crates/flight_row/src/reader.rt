@@ -29,7 +29,7 @@ use crate::loading::loaded;
 use crate::row::{PlanNames, Row, Version};
 use crate::single_lines::first_releases;
 use aircraft_file::{Aircraft, Registration};
-use desk_base::NoMemory;
+use base_words::NoMemory;
 use flight_state::{FlightState, Leg, Lmcs, Stage};
 use payload::Cabin;
 use std::alloc::Global;

@@ -15,7 +15,7 @@ ghost use Rattle.flight_row.specs.Spelled.{IsNamedChange};
 ghost use Rattle.flight_row.specs.RowText.{version_line, leg_line, edition_line, stage_word, stage_line, releases_line, dry_line, fuel_line, limits_line, zone_line, container_line, loose_line, plan_lines, change_line, figure_lines};
 ghost use Rattle.flight_row.specs.declared.row.Version.TheVariants.{Two};
 
-use desk_base::NoMemory;
+use base_words::NoMemory;
 use flight_state::{FlightState, Leg, Lmc, Stage};
 use hold_limits::{Hold, Item};
 use mass_units::{Kg, Ticks};

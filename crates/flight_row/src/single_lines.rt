@@ -14,7 +14,7 @@ ghost use Rattle.flight_row.specs.Spelled.{IsEdition, AreToldReleases, first_rel
 use crate::row::{PlanNames, Version};
 use crate::words::Words;
 use aircraft_file::Registration;
-use desk_base::NoMemory;
+use base_words::NoMemory;
 use flight_state::{Day, FlightName, Leg, Stage, Station};
 use mass_units::Kg;
 use std::alloc::Global;

@@ -8,7 +8,7 @@ ghost use Rattle.flight_row.specs.Loading.{HasRow, KeepsPlan, Reads, aircraft_of
 
 use crate::row_lines::{push_base, push_changes, push_head, push_plan};
 use aircraft_file::Aircraft;
-use desk_base::NoMemory;
+use base_words::NoMemory;
 use flight_state::FlightState;
 use std::alloc::Global;
 use telex::Builder;

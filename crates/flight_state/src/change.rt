@@ -2,7 +2,7 @@
 
 ghost use Rattle.std.specs.Prelude.{◌≡◌, ◌++◌, ◌∷◌, [], ◌≤◌, ◌<◌, ◌↔◌, length, IsTrue, IfOk, OnOk, OnErr};
 
-use desk_base::NoMemory;
+use base_words::NoMemory;
 use hold_limits::Name;
 use hold_parts::{Copyable, copied};
 use std::alloc::Global;

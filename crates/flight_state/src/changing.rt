@@ -6,7 +6,7 @@ ghost use Rattle.flight_state.specs.Effective.{changed, stays_within, up_to_zone
 
 use crate::change::Lmc;
 use crate::state::FlightState;
-use desk_base::NoMemory;
+use base_words::NoMemory;
 use hold_limits::Name;
 use mass_units::Kg;
 use payload::{Cabin, ZoneCount};

@@ -4,7 +4,7 @@ ghost use Rattle.std.specs.Prelude.{◌≡◌, IfOk};
 
 use crate::change::Lmcs;
 use crate::leg::Leg;
-use desk_base::NoMemory;
+use base_words::NoMemory;
 use hold_limits::Path;
 use std::alloc::Global;
 use trim::Figures;

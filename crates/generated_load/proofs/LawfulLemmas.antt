@@ -5,7 +5,7 @@ use Rattle.std.specs.List.{range_with_len, AllByRecursion}
 use Rattle.std.proofs.lemmas.List.Elements.{All-from_recursion, All-map, All-same}
 use Rattle.std.proofs.lemmas.Nat.{mod_below}
 use Rattle.std.proofs.lemmas.Bool.{le-ltb, cases_Bool}
-use Rattle.desk_base.specs.Lists.{first_repeat}
+use Rattle.base_words.specs.Lists.{first_repeat}
 use Rattle.hold_parts.specs.declared.parts.Position.{Position}
 use Rattle.hold_parts.specs.declared.parts.Item.{Item}
 use Rattle.hold_parts.specs.declared.parts.Combined.{Combined}

@@ -5,7 +5,7 @@ ghost use Rattle.mass_units.specs.Spelling.{two_digits};
 ghost use Rattle.hold_parts.specs.Spellings.{IsCapital};
 ghost use Rattle.generated_load.specs.Load.{generated_name, generated_position, generated_positions, generated_hold, generated_id, generated_mass, generated_items, generated_problem};
 
-use desk_base::NoMemory;
+use base_words::NoMemory;
 use hold_limits::{Fit, Hold, Item, Name, Position, Task, UldId};
 use mass_units::{Kg, Ticks};
 use std::alloc::Global;

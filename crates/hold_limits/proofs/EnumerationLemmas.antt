@@ -25,9 +25,9 @@ use Rattle.hold_parts.specs.Limits.{is_listed, is_counted}
 use Rattle.hold_parts.specs.Accepting.{kind_of, Accepts, accepts}
 use Rattle.hold_limits.specs.Enumeration.{list_all_pairs, is_accepted, exclude, keeps_limits, is_sound, is_within_lateral, is_admissible, all_paths, candidates, better, best_among, best_by_trial}
 use Rattle.hold_limits.proofs.KeyOrder.{IsAtMost-refl, IsAtMost-trans, IsAtMost-from_greater}
-use Rattle.desk_base.proofs.PairLemmas.{AllPairs-head, AllPairs-tail}
+use Rattle.base_words.proofs.PairLemmas.{AllPairs-head, AllPairs-tail}
 use Rattle.hold_limits.proofs.SoundLemmas.{IsSound-within}
-use Rattle.desk_base.proofs.PairLemmas.{each-weaker}
+use Rattle.base_words.proofs.PairLemmas.{each-weaker}
 
 -- Tests on lists --------------------------------------------------------------------------------
 

@@ -13,8 +13,8 @@ use Rattle.std.proofs.lemmas.Slice.Zip.{get_or-zip, length-zip}
 use Rattle.std.specs.Cmp.Lexicographic.{slice_cmp}
 use Rattle.std.specs.Ordering.{ordering_then}
 use Rattle.std.specs.Prelude.{All, AllPairs, Any, IsPermutation, IsSomeAnd, slice_get, sum_by, swap}
-use Rattle.desk_base.specs.Lists.{int_sum_by}
-use Rattle.desk_base.proofs.Arrangements.{sum_by-map}
+use Rattle.base_words.specs.Lists.{int_sum_by}
+use Rattle.base_words.proofs.Arrangements.{sum_by-map}
 use Rattle.hold_parts.specs.Accepting.{kind_of}
 use Rattle.hold_parts.specs.Limits.{is_listed, is_counted}
 use Rattle.hold_parts.specs.Twins.{AreTwins}

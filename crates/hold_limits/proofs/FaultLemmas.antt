@@ -12,8 +12,8 @@ use Rattle.std.specs.Bool.{Decides}
 use Rattle.std.specs.Prelude.{All, AllPairs, position, slice_get, is_some}
 use Rattle.std.specs.List.{list_any, position_or_len, AllByRecursion}
 use Rattle.std.specs.Option.{option_or}
-use Rattle.desk_base.specs.Lists.{first_below, first_repeat, repeats_at}
-use Rattle.desk_base.proofs.PairLemmas.{pairs-all}
+use Rattle.base_words.specs.Lists.{first_below, first_repeat, repeats_at}
+use Rattle.base_words.proofs.PairLemmas.{pairs-all}
 use Rattle.hold_limits.specs.Faults.{fault_if}
 
 pub option_or-none : {X : Type 0} (a b : Option X) → option_or a b ≡ None → (a ≡ None) × (b ≡ None)

@@ -13,8 +13,8 @@ use Rattle.std.proofs.lemmas.Option.{slice_get_cases, slice_get-get_or}
 use Rattle.std.specs.Bool.{Decides}
 use Rattle.std.specs.Prelude.{◌↔◌, IfSome, All, AllPairs, slice_get, is_some}
 use Rattle.std.specs.List.{list_any, list_all, AllByRecursion, IsDistinct}
-use Rattle.desk_base.specs.Lists.{first_repeat}
-use Rattle.desk_base.proofs.PairLemmas.{each-weaker, pairs-all, AllPairs-head, AllPairs-tail}
+use Rattle.base_words.specs.Lists.{first_repeat}
+use Rattle.base_words.proofs.PairLemmas.{each-weaker, pairs-all, AllPairs-head, AllPairs-tail}
 use Rattle.hold_parts.specs.declared.parts.Position.{Position}
 use Rattle.hold_parts.specs.declared.parts.Item.{Item}
 use Rattle.hold_parts.specs.declared.parts.Loose.{Loose}

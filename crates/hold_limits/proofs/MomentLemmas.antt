@@ -7,7 +7,7 @@ use Rattle.std.proofs.lemmas.Option.{slice_get_cases, slice_get_within, get_or_f
 use Rattle.std.proofs.lemmas.Slice.Zip.{get_or-zip, length-zip}
 use Rattle.std.proofs.Math.Nat.{suc-mul, mul_assoc, mul-le-mul, le_refl}
 use Rattle.std.specs.Prelude.{All, slice_get}
-use Rattle.desk_base.specs.Lists.{int_sum_by}
+use Rattle.base_words.specs.Lists.{int_sum_by}
 use Rattle.hold_parts.specs.declared.parts.Item.{Item}
 use Rattle.hold_parts.specs.declared.parts.Loose.{Loose}
 use Rattle.hold_limits.specs.declared.moments.Arm.{Arm}
@@ -23,7 +23,7 @@ use Rattle.hold_limits.proofs.BranchOrderLemmas.{entries-offered}
 use Rattle.hold_limits.proofs.PlacedLemmas.{take-placed_more, length-placed}
 use Rattle.hold_limits.specs.Bounds.{KeepsTaskRules}
 use Rattle.hold_limits.proofs.LawfulBounds.{lawful-bounds}
-use Rattle.desk_base.proofs.SignedSums.{int_sum_by-push, int_sum_by-more}
+use Rattle.base_words.proofs.SignedSums.{int_sum_by-push, int_sum_by-more}
 
 -- Signed sums -----------------------------------------------------------------------------------
 

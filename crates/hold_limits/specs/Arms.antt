@@ -1,6 +1,6 @@
 -- moments: mass times arm, whatever the arm is
 use Rattle.std.specs.Prelude.{ℕ, ℤ, pos, ◌+ℤ◌, ◌*ℤ◌, List}
-use Rattle.desk_base.specs.Lists.{int_sum_by}
+use Rattle.base_words.specs.Lists.{int_sum_by}
 use Rattle.hold_parts.specs.declared.parts.Loose.{Loose}
 use Rattle.hold_limits.specs.declared.moments.Arm.{Arm}
 use Rattle.hold_limits.specs.declared.moments.Arm.TheVariants.{Influence, Side}

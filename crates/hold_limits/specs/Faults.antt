@@ -2,7 +2,7 @@
 use Rattle.std.specs.Prelude.{◌≡◌, ℕ, zero, suc, ◌≤◌, ℤ, unsigned_abs, int_lt, Bool, false, not, ◌&&◌, ◌||◌, ◌==◌, nat_lt, nat_le, if◌then◌else◌, List, length, take, drop, zip, All, position, Option, Some, None, is_some, option_map, slice_get, IfSome}
 use Rattle.std.specs.List.{list_any, list_all}
 use Rattle.std.specs.Option.{option_or, option_map_or}
-use Rattle.desk_base.specs.Lists.{first_below, first_repeat}
+use Rattle.base_words.specs.Lists.{first_below, first_repeat}
 use Rattle.mass_units.specs.declared.Kg.{Kg}
 use Rattle.hold_parts.specs.declared.lists.Fit.{Fit}
 use Rattle.hold_parts.specs.declared.parts.Position.{Position}

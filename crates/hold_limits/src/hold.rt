@@ -9,7 +9,7 @@ ghost use Rattle.hold_limits.specs.Enumeration.{is_accepted, exclude, is_within_
 
 use crate::fault::HoldFault;
 use crate::hold_faults::{fault_of_hold, fault_of_sides, is_pair_among};
-use desk_base::NoMemory;
+use base_words::NoMemory;
 use hold_parts::{Combined, Copyable, Cumulative, Item, Lateral, Position, Same, are_same, copied};
 use std::alloc::Global;
 use std::marker::Model;

@@ -129,7 +129,7 @@ fn is_exclude_wrong(positions: &[Position], excludes: &[(u8, u8)], at: usize) ->
     }
 }
 
-#[tactic(auto, using(desk_base::proofs::ListLemmas::first_steps))]
+#[tactic(auto, using(base_words::proofs::ListLemmas::first_steps))]
 fn first_wrong_exclude(positions: &[Position], excludes: &[(u8, u8)]) -> Option<usize>
     ensures { result ≡ wrong_exclude positions.now excludes.now }
 {
@@ -236,7 +236,7 @@ fn is_side_wrong(positions: &[Position], sides: &[(u8, bool)], at: usize) -> boo
     }
 }
 
-#[tactic(auto, using(desk_base::proofs::ListLemmas::first_steps))]
+#[tactic(auto, using(base_words::proofs::ListLemmas::first_steps))]
 fn first_wrong_side(positions: &[Position], sides: &[(u8, bool)]) -> Option<usize>
     ensures { result ≡ wrong_side positions.now sides.now }
 {

@@ -6,7 +6,7 @@
 //! the masses right and left.
 
 ghost use Rattle.std.specs.Prelude.{◌≡◌, ◌*◌, ◌≤◌, pos, ◌*ℤ◌, unsigned_abs, length};
-ghost use Rattle.desk_base.specs.Lists.{int_sum_by};
+ghost use Rattle.base_words.specs.Lists.{int_sum_by};
 ghost use Rattle.hold_limits.specs.Faults.{IsLawful};
 ghost use Rattle.hold_limits.specs.Placement.{placed};
 ghost use Rattle.hold_limits.specs.Arms.{arm_at, longest, placed_by, loose_by, moment_by};

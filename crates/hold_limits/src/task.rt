@@ -9,7 +9,7 @@ use crate::hold::Hold;
 use crate::order::{branch_order, item_at};
 use crate::task_faults::fault_of_task;
 use arrayvec::ArrayVec;
-use desk_base::NoMemory;
+use base_words::NoMemory;
 use hold_parts::{Indices, Item, Loose, Same, are_same, copied};
 use mass_units::{Band, Ticks};
 use std::alloc::Global;

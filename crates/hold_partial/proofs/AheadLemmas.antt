@@ -26,7 +26,7 @@ use Rattle.hold_reach.specs.Reach.{falls, is_free, is_open, amounts, reach}
 use Rattle.hold_reach.specs.Rules.{is_used}
 use Rattle.hold_reach.proofs.ReachLemmas.{IsSummed, amounts-bounded, summed-start, summed-next, summed-all}
 use Rattle.hold_reach.proofs.ViableLemmas.{hold_index-next, lateral_difference-next}
-use Rattle.desk_base.proofs.PairLemmas.{each-weaker}
+use Rattle.base_words.proofs.PairLemmas.{each-weaker}
 use Rattle.hold_partial.specs.declared.ahead.Ahead.{Ahead}
 use Rattle.hold_partial.specs.declared.ahead.Extremes.{Extremes}
 use Rattle.position_set.specs.declared.set.PositionSet.{PositionSet}

@@ -10,8 +10,8 @@ use Rattle.std.specs.Prelude.{slice_get, slice_index, All, ◌↔◌}
 use Rattle.std.specs.List.{filter, range_with_len}
 use Rattle.std.specs.Option.{option_or}
 use Rattle.arrayvec.specs.ArrayVec.{ArrayVec}
-use Rattle.desk_base.specs.Lists.{first_below}
-use Rattle.desk_base.proofs.ListLemmas.{first_below-some}
+use Rattle.base_words.specs.Lists.{first_below}
+use Rattle.base_words.proofs.ListLemmas.{first_below-some}
 use Rattle.hold_parts.specs.declared.parts.Combined.{Combined}
 use Rattle.hold_parts.specs.declared.parts.Cumulative.{Cumulative}
 use Rattle.hold_parts.specs.declared.parts.Item.{Item}

@@ -19,7 +19,7 @@ use Rattle.hold_partial.specs.Arrangement.{Ranked, ranked_of, AreRising, IsByInf
 use Rattle.hold_partial.specs.Levels.{IsSpanOnRanks}
 use Rattle.hold_reach.specs.Reach.{least, greatest}
 use Rattle.hold_reach.proofs.SpanLemmas.{range-more}
-use Rattle.desk_base.proofs.PairLemmas.{each-weaker}
+use Rattle.base_words.proofs.PairLemmas.{each-weaker}
 
 -- Least and greatest -------------------------------------------------------------------------------
 

@@ -4,7 +4,7 @@ ghost use Rattle.std.specs.Prelude.{◌≡◌, IfOk};
 
 use crate::lists::{Fits, Places, Sides};
 use crate::parts::{Combined, Item, Lateral, Position};
-use desk_base::NoMemory;
+use base_words::NoMemory;
 use std::alloc::Global;
 
 /// A part that can be copied where there is memory for it.

@@ -7,7 +7,7 @@ ghost use Rattle.std.specs.Ordering.{nat_cmp};
 ghost use Rattle.hold_parts.specs.Names.{number_named};
 
 use crate::parts::Position;
-use desk_base::NoMemory;
+use base_words::NoMemory;
 use std::alloc::Global;
 use std::collections::BTreeMap;
 

@@ -2,7 +2,7 @@
 
 ghost use Rattle.std.specs.Prelude.{◌≡◌, Bool};
 ghost use Rattle.std.specs.List.{list_any};
-ghost use Rattle.desk_base.specs.Lists.{repeats_at, first_repeat};
+ghost use Rattle.base_words.specs.Lists.{repeats_at, first_repeat};
 ghost use Rattle.hold_parts.specs.Repeats.{same_name, same_kind, same_id, same_position};
 
 use crate::lists::Fit;
@@ -64,7 +64,7 @@ fn repeats_at<T: Alike>(list: &[T], place: usize) -> bool
 }
 
 /// The place of the first part that is like an earlier one, and None where each two differ.
-#[tactic(auto, using(desk_base::proofs::ListLemmas::first_steps))]
+#[tactic(auto, using(base_words::proofs::ListLemmas::first_steps))]
 pub fn first_repeat<T: Alike>(list: &[T]) -> Option<usize>
     ensures { result ≡ first_repeat T.alike list.now }
 {

@@ -10,7 +10,7 @@ use Rattle.std.specs.Prelude.{All, ◌↔◌}
 use Rattle.std.specs.Bool.{Decides}
 use Rattle.std.specs.Int.{int_min, int_max}
 use Rattle.std.specs.List.{AllByRecursion, filter, fold, list_all, list_any, range_with_len}
-use Rattle.desk_base.specs.Lists.{int_sum_by}
+use Rattle.base_words.specs.Lists.{int_sum_by}
 use Rattle.hold_parts.specs.declared.parts.Item.{Item}
 use Rattle.hold_parts.specs.Twins.{AreTwins, are_twins}
 use Rattle.hold_limits.specs.Problem.{Problem}

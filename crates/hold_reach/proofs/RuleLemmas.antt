@@ -13,7 +13,7 @@ use Rattle.std.specs.Prelude.{All, AllPairs, ◌↔◌, IsSomeAnd, position, sli
 use Rattle.std.specs.Bool.{Decides}
 use Rattle.std.specs.List.{Contains, list_any}
 use Rattle.std.specs.Option.{option_or, option_map_or}
-use Rattle.desk_base.specs.Lists.{first_below}
+use Rattle.base_words.specs.Lists.{first_below}
 use Rattle.hold_parts.specs.declared.lists.Fit.{Fit}
 use Rattle.hold_parts.specs.declared.parts.Position.{Position}
 use Rattle.hold_parts.specs.declared.parts.Combined.{Combined}

@@ -8,7 +8,7 @@ use Rattle.std.proofs.lemmas.List.Elements.{All-cons, All-weaker}
 use Rattle.std.proofs.lemmas.Option.{get_or_from_slice_get, slice_get_within}
 use Rattle.std.proofs.lemmas.List.Quantifiers.{all_pairs_push}
 use Rattle.std.specs.Prelude.{All, AllPairs, int_lt, IfSome, IsSomeAnd, slice_get}
-use Rattle.desk_base.specs.Lists.{int_sum_by}
+use Rattle.base_words.specs.Lists.{int_sum_by}
 use Rattle.hold_parts.specs.declared.parts.Item.{Item}
 use Rattle.hold_parts.specs.declared.parts.Lateral.{Lateral}
 use Rattle.hold_parts.specs.Twins.{AreTwins}
@@ -19,7 +19,7 @@ use Rattle.hold_limits.specs.Twins.{IsRising}
 use Rattle.hold_limits.specs.Faults.{IsLawful}
 use Rattle.hold_limits.proofs.LawfulBounds.{lawful-bounds}
 use Rattle.hold_limits.proofs.BranchOrderLemmas.{length-ordered}
-use Rattle.desk_base.proofs.SignedSums.{int_sum_by-push}
+use Rattle.base_words.proofs.SignedSums.{int_sum_by-push}
 use Rattle.hold_limits.proofs.SoundLemmas.{zip-append, All-front, AllPairs-front, IsSound-front}
 use Rattle.hold_reach.specs.Reach.{remaining, IsFree, is_free, IsOpen, is_open, falls, span_from, reach, wide_reach, lateral_reach, Meets, MeetsLateral, IsViable, gap, gap_to_ideal, bound, wide_bound}
 use Rattle.hold_reach.specs.Choices.{Gives, Allows, AllowsWidely, AllowsLaterally, IsWithin, LiesIn, IsSpanOf, Spans, distance_at, IsNearest}

@@ -1,6 +1,6 @@
 -- what the reaches of a prefix and its bounds mean: which sums the containers that are left can still give
 use Rattle.std.specs.Prelude.{◌≡◌, ℕ, ◌≤◌, ℤ, ◌+ℤ◌, ◌≤ℤ◌, List, length, zip, All, Option, MatchOption}
-use Rattle.desk_base.specs.Lists.{int_sum_by}
+use Rattle.base_words.specs.Lists.{int_sum_by}
 use Rattle.hold_parts.specs.declared.parts.Item.{Item}
 use Rattle.hold_limits.specs.Problem.{Problem}
 use Rattle.hold_limits.specs.Placement.{Placed, placed_moment, hold_index, placed_lateral, lateral_difference, distance_to}

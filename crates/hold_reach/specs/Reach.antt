@@ -3,7 +3,7 @@
 use Rattle.std.specs.Prelude.{◌≢◌, ℕ, ◌<◌, ℤ, pos, ◌+ℤ◌, ◌-ℤ◌, ◌≤ℤ◌, int_lt, unsigned_abs, Bool, not, ◌&&◌, nat_le, if◌then◌else◌, List, [], ◌∷◌, length, drop, map, All, IfSome, IsSomeAnd, Option, Some, None, option_map}
 use Rattle.std.specs.List.{list_all, list_any, filter, fold, range_with_len}
 use Rattle.std.specs.Int.{int_min, int_max}
-use Rattle.desk_base.specs.Lists.{int_sum_by}
+use Rattle.base_words.specs.Lists.{int_sum_by}
 use Rattle.hold_parts.specs.declared.parts.Item.{Item}
 use Rattle.hold_parts.specs.declared.parts.Lateral.{Lateral}
 use Rattle.hold_parts.specs.Twins.{AreTwins, are_twins}

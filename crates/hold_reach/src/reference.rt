@@ -30,7 +30,7 @@ pub fn accepts_kind_at(hold: &Hold, item: &Item, number: u8) -> bool
     }
 }
 
-#[tactic(auto, using(desk_base::proofs::ListLemmas::first_steps))]
+#[tactic(auto, using(base_words::proofs::ListLemmas::first_steps))]
 fn excluding_position(hold: &Hold, prefix: &[u8], number: u8) -> Option<u8>
     ensures { result ≡ excluding hold.now prefix.now number }
 {

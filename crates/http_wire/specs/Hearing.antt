@@ -1,7 +1,7 @@
 -- What a wire has heard, and what a call of it says of the bytes that were to come.
 use Rattle.std.specs.Prelude.{◌≡◌, ◌++◌, ℕ, Bool, true, List, [], Option, Some, None, Result, Ok, Err, IfSome, IsSomeAnd}
 use Rattle.std.specs.Option.{option_map}
-use Rattle.desk_base.specs.Faults.{Rose}
+use Rattle.base_words.specs.Faults.{Rose}
 use Rattle.http_wire.specs.Requests.{Request, BeginsWith, Refuses}
 use Rattle.http_wire.specs.declared.refusals.WireFault.{WireFault}
 use Rattle.http_wire.specs.declared.refusals.WireFault.TheVariants.{Refused, ReadFault}

@@ -1,6 +1,6 @@
 // Answers to requests.
 ghost use Rattle.std.specs.Prelude.{◌≡◌, ◌+◌, ◌++◌, ◌≤◌, length, OnOk, OnErr, IsTrue};
-ghost use Rattle.desk_base.specs.Faults.{Rose};
+ghost use Rattle.base_words.specs.Faults.{Rose};
 ghost use Rattle.load_io.specs.Sink.{Appends, AppendsPart};
 ghost use Rattle.http_wire.specs.Answer.{answer_bytes, closing_of, head_bytes, is_answered, phrase_of, type_of};
 

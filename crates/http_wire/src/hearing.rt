@@ -1,6 +1,6 @@
 // Requests as they come from a link into a buffer, of which the first `end` bytes have been heard.
 ghost use Rattle.std.specs.Prelude.{◌≡◌, ◌+◌, ◌<◌, ◌≤◌, [], length, take, slice_range, Ok, IfOk, IfSome, OnOk, OnErr};
-ghost use Rattle.desk_base.specs.Faults.{Rose};
+ghost use Rattle.base_words.specs.Faults.{Rose};
 ghost use Rattle.httparse.specs.Grammar.{HasNoRequest};
 ghost use Rattle.http_wire.specs.Hearing.{to_come, Hears, Counts};
 ghost use Rattle.http_wire.specs.Places.{HasWholeHead, HasWholeRequest, HearsAt};

@@ -9,7 +9,7 @@ use crate::WireFault;
 use crate::heads::RequestPlaces;
 use crate::hearing::hear_in;
 use crate::limits::MOST_REQUEST;
-use desk_base::NoMemory;
+use base_words::NoMemory;
 use load_io::Link;
 use std::alloc::Global;
 use std::marker::Model;

@@ -8,7 +8,7 @@ use Rattle.std.proofs.lemmas.Bool.Decides.{nat_tests}
 use Rattle.std.proofs.lemmas.Cmp.{nat_list_cmp_total, tied_itself, alike_right}
 use Rattle.std.proofs.lemmas.List.Elements.{All-nil, All-cons, All-head, All-tail, All-weaker, All-get_or}
 use Rattle.std.proofs.lemmas.List.Kept.{AllPairs-cons}
-use Rattle.desk_base.proofs.PairLemmas.{AllPairs-head, AllPairs-tail}
+use Rattle.base_words.proofs.PairLemmas.{AllPairs-head, AllPairs-tail}
 use Rattle.keeper.specs.declared.row.KeptRow.{KeptRow}
 use Rattle.keeper.specs.Rows.{put_by, with_row, key_order, IsPlaceOf}
 use Rattle.keeper.specs.Tables.{IsBefore, AreInKeyOrder, bytes_under}

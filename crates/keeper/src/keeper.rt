@@ -1,11 +1,11 @@
 //! What keeps the rows of flights.
 
 ghost use Rattle.std.specs.Prelude.{◌≡◌, ◌≢◌, ℕ, ◌≤◌, Option, Err, IfOk, OnOk, OnErr};
-ghost use Rattle.desk_base.specs.Faults.{Rose};
+ghost use Rattle.base_words.specs.Faults.{Rose};
 ghost use Rattle.keeper.specs.Tables.{Tables, AreAllRows, AreInKeyOrder, HoldsAfter};
 
 use crate::row::KeptRow;
-use desk_base::NoMemory;
+use base_words::NoMemory;
 use std::alloc::Global;
 use thiserror::Error;
 

@@ -2,7 +2,7 @@
 
 ghost use Rattle.std.specs.Prelude.{◌≡◌, IfOk};
 
-use desk_base::NoMemory;
+use base_words::NoMemory;
 use std::alloc::Global;
 use std::marker::Model;
 

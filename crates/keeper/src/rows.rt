@@ -5,7 +5,7 @@ ghost use Rattle.keeper.specs.Rows.{with_row, IsPlaceOf};
 ghost use Rattle.keeper.specs.Tables.{AreInKeyOrder};
 
 use crate::row::KeptRow;
-use desk_base::NoMemory;
+use base_words::NoMemory;
 use std::alloc::Global;
 use std::marker::Model;
 

@@ -3,8 +3,8 @@ use Rattle.std.proofs.Common.{◌≡◌, ℕ, ◌+◌, ◌*◌, ◌<◌, ◌≤�
 use Rattle.std.proofs.lemmas.Int.{ints}
 use Rattle.std.proofs.lemmas.Slice.Zip.{length-zip, get_or-zip}
 use Rattle.std.specs.List.{zip}
-use Rattle.desk_base.specs.Lists.{int_sum_by}
-use Rattle.desk_base.proofs.SignedSums.{int_sum_by-more}
+use Rattle.base_words.specs.Lists.{int_sum_by}
+use Rattle.base_words.proofs.SignedSums.{int_sum_by-more}
 use Rattle.payload.specs.Load.{cabin_index, zone_index}
 use Rattle.payload.specs.declared.figures.Averages.{Averages}
 use Rattle.payload.specs.declared.figures.Zone.{Zone}

@@ -1,7 +1,7 @@
 -- what late changes change is what passengers and loose loads weigh
 use Rattle.std.proofs.Common.{◌≡◌, ℕ, ◌+◌, ℤ, pos, ◌+ℤ◌, ◌-ℤ◌, List, ap, arith, zip}
 use Rattle.std.proofs.lemmas.Int.{ints}
-use Rattle.desk_base.specs.Lists.{int_sum_by}
+use Rattle.base_words.specs.Lists.{int_sum_by}
 use Rattle.mass_limits.specs.Masses.{zero_fuel_mass}
 use Rattle.payload.specs.Load.{cabin_mass, cabin_index}
 use Rattle.hold_limits.specs.BranchOrder.{ordered}

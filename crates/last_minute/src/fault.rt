@@ -3,7 +3,7 @@
 ghost use Rattle.std.specs.Prelude.{◌≡◌};
 ghost use Rattle.last_minute.specs.declared.fault.LmcFault.TheVariants.{NoMemory as out_of_memory};
 
-use desk_base::NoMemory;
+use base_words::NoMemory;
 use mass_units::{Kg, Ticks};
 use payload::PayFault;
 use thiserror::Error;

@@ -14,7 +14,7 @@ use crate::loads::{loads_told, mass_of_loads};
 use crate::places::places_of;
 use crate::sheet::Sheet;
 use aircraft_file::Aircraft;
-use desk_base::NoMemory;
+use base_words::NoMemory;
 use flight_state::{FlightState, effective};
 use hold_limits::{Item, Path};
 use mass_units::{Chord, Kg, mac_hundredths};

@@ -1,13 +1,13 @@
 //! The loose loads of a flight, on the bulk positions that their figures name.
 
 ghost use Rattle.std.specs.Prelude.{◌≡◌, ◌≤◌, ◌*◌, map, position, length, unsigned_abs, All, IfOk, IfSome};
-ghost use Rattle.desk_base.specs.Lists.{int_sum_by};
+ghost use Rattle.base_words.specs.Lists.{int_sum_by};
 ghost use Rattle.hold_limits.specs.Placement.{loose_moment};
 ghost use Rattle.trim.specs.Loads.{is_bulk_named, bulk_number, load_told, loose_mass};
 ghost use Rattle.flight_state.specs.Effective.{IsLooseWithin};
 
 use aircraft_file::Aircraft;
-use desk_base::NoMemory;
+use base_words::NoMemory;
 use hold_limits::{Hold, Loose, Position};
 use mass_units::Kg;
 use std::alloc::Global;

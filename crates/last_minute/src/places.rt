@@ -10,7 +10,7 @@ ghost use Rattle.last_minute.specs.Sheets.{IsStowage, stowed, place_on, places_o
 
 use crate::sheet::{Place, PlaceList};
 use aircraft_file::Aircraft;
-use desk_base::NoMemory;
+use base_words::NoMemory;
 use hold_limits::{Item, Loose, Path, Position, UldId, branch_order, item_at};
 use mass_units::Kg;
 use std::alloc::Global;

@@ -1,7 +1,7 @@
 //! What late changes can change: the passengers and the loose loads of a flight.
 
 ghost use Rattle.std.specs.Prelude.{◌≡◌, ◌+◌, ◌*◌, ◌≤◌, ◌+ℤ◌, length, unsigned_abs, All, IfOk};
-ghost use Rattle.desk_base.specs.Lists.{int_sum_by};
+ghost use Rattle.base_words.specs.Lists.{int_sum_by};
 ghost use Rattle.hold_limits.specs.Placement.{loose_moment};
 ghost use Rattle.payload.specs.Load.{zone_mass, zone_index, cabin_mass, cabin_index};
 ghost use Rattle.trim.specs.Limits.{HasFewPassengers};
@@ -11,7 +11,7 @@ ghost use Rattle.flight_state.specs.Effective.{IsLooseWithin};
 
 use crate::loads::{index_of_loads, loads_told, mass_of_loads};
 use aircraft_file::Aircraft;
-use desk_base::NoMemory;
+use base_words::NoMemory;
 use payload::{Averages, Zone, ZoneCount};
 use std::alloc::Global;
 use trim::Figures;

@@ -12,7 +12,7 @@ ghost use Rattle.ldm_cpm.specs.Reading.{board_said};
 use crate::loads::{push_loads, total};
 use crate::messages::Loads;
 use crate::numbers::number_after;
-use desk_base::NoMemory;
+use base_words::NoMemory;
 use last_minute::Station;
 use mass_units::read_number;
 use std::alloc::Global;

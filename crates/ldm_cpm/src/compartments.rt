@@ -5,7 +5,7 @@ ghost use Rattle.std.specs.List.{flat_map};
 ghost use Rattle.ldm_cpm.specs.Messages.{total, load_elements};
 ghost use Rattle.ldm_cpm.specs.Sheets.{marked, mass_in, load_in, loads_below};
 
-use desk_base::NoMemory;
+use base_words::NoMemory;
 use last_minute::Place;
 use telex::Builder;
 

@@ -16,7 +16,7 @@ use crate::heads::read_head;
 use crate::messages::{Cpm, CpmPlace, CpmPlaces, Head};
 use crate::places::read_place;
 use crate::titles::next_title;
-use desk_base::NoMemory;
+use base_words::NoMemory;
 use std::alloc::Global;
 use telex::{Line, Lines, cut};
 

@@ -8,7 +8,7 @@ ghost use Rattle.ldm_cpm.specs.Messages.{place_elements, place_lines, cpm_text, 
 ghost use Rattle.ldm_cpm.specs.Sheets.{marked, loose_elements, elements_on, placing_of, cpm_of};
 
 use crate::ldm_writer::push_heading;
-use desk_base::NoMemory;
+use base_words::NoMemory;
 use last_minute::{Place, Sheet};
 use mass_units::Kg;
 use std::alloc::Global;

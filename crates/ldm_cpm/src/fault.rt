@@ -1,6 +1,6 @@
 //! Why a text is not a message of its kind.
 
-use desk_base::NoMemory;
+use base_words::NoMemory;
 use telex::TelexFault;
 use thiserror::Error;
 

@@ -12,7 +12,7 @@ use crate::fault::MsgFault;
 use crate::heads::read_crew_head;
 use crate::messages::{Head, Ldm};
 use crate::titles::next_title;
-use desk_base::NoMemory;
+use base_words::NoMemory;
 use std::alloc::Global;
 use telex::{Lines, cut};
 

@@ -7,7 +7,7 @@ ghost use Rattle.ldm_cpm.specs.Messages.{heading_elements, crew_elements, board_
 ghost use Rattle.ldm_cpm.specs.Sheets.{heading_on, board_on, ldm_of};
 
 use crate::compartments::{push_loads, total_mass};
-use desk_base::NoMemory;
+use base_words::NoMemory;
 use last_minute::Sheet;
 use std::alloc::Global;
 use telex::Builder;

@@ -8,7 +8,7 @@ ghost use Rattle.telex.specs.Elements.{said};
 ghost use Rattle.ldm_cpm.specs.Messages.{total, load_elements, seat_elements, AreLoads};
 
 use crate::numbers::number_after;
-use desk_base::NoMemory;
+use base_words::NoMemory;
 use mass_units::Kg;
 use telex::{DOT, Part, SLASH};
 

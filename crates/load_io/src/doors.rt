@@ -1,6 +1,6 @@
 // Doors, at which links come in one after another.
 ghost use Rattle.std.specs.Prelude.{◌≡◌, ℕ, ◌+◌, ◌<◌, ◌≤◌, List, Option, IfSome, IfNone, IfOk, OnOk, OnErr};
-ghost use Rattle.desk_base.specs.Faults.{Rose};
+ghost use Rattle.base_words.specs.Faults.{Rose};
 ghost use Rattle.load_io.specs.Door.{Brings, NoneComes, HandsBack};
 
 use crate::{Failed, Link};

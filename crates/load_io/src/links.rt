@@ -1,6 +1,6 @@
 // Links, which are read and written.
 ghost use Rattle.std.specs.Prelude.{◌≡◌, ℕ, ◌<◌, ◌≤◌, List, [], length, take, Option, Ok, IfOk, OnOk, OnErr, IfSome};
-ghost use Rattle.desk_base.specs.Faults.{Rose};
+ghost use Rattle.base_words.specs.Faults.{Rose};
 ghost use Rattle.load_io.specs.Sink.{Appends, AppendsPart};
 ghost use Rattle.load_io.specs.Source.{Moves};
 

@@ -8,7 +8,7 @@ use Rattle.std.specs.declared.alloc.Global.{Global}
 use Rattle.std.proofs.lemmas.List.{take_all, length-map}
 use Rattle.mass_units.specs.Spelling.{number_text}
 use Rattle.mass_units.proofs.SpellingLemmas.{number_text-injective}
-use Rattle.desk_base.specs.Faults.{Rose}
+use Rattle.base_words.specs.Faults.{Rose}
 use Rattle.load_io.specs.Shelf.{Files}
 use Rattle.keeper.specs.Tables.{Tables}
 use Rattle.flight_state.specs.declared.state.FlightState.{FlightState}

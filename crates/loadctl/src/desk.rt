@@ -6,7 +6,7 @@ ghost use Rattle.plan_commands.specs.Arguments.{arguments_of};
 ghost use Rattle.loadctl.specs.Desk.{surroundings, fault_text, status_of_end, status_of_fault, EndsDesk, IsReported};
 
 use crate::ran::RanOne;
-use desk_base::NoMemory;
+use base_words::NoMemory;
 use desk_fleet::line_of_refusal;
 use desk_run::{ConnEnd, DeskFault, RanDesk, run_desk};
 use keeper::Keeper;

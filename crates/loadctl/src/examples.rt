@@ -1,5 +1,5 @@
 // The arguments, the files and the requests of the tests.
-use desk_base::NoMemory;
+use base_words::NoMemory;
 use load_io::MemoryShelf;
 use std::alloc::Global;
 

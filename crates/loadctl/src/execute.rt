@@ -14,7 +14,7 @@ use crate::needs::{Needs, WordFault};
 use crate::objects::Objects;
 use crate::program::run;
 use crate::words::needs;
-use desk_base::NoMemory;
+use base_words::NoMemory;
 use load_io::{Shelf, Sink, Source};
 use placer::Placing;
 use plan_commands::arguments_from;

@@ -2,7 +2,7 @@
 
 ghost use Rattle.std.specs.Prelude.{ℕ, List, Option, None, Some, IfOk};
 
-use desk_base::NoMemory;
+use base_words::NoMemory;
 use keeper::Keeper;
 use load_io::Door;
 use std::alloc::Global;

@@ -12,7 +12,7 @@ ghost use Rattle.loadctl.specs.Execute.{Executes};
 use crate::execute::execute;
 use crate::objects::Objects;
 use crate::stores::RowStore;
-use desk_base::NoMemory;
+use base_words::NoMemory;
 use keeper::{Keeper, MemoryKeeper};
 use load_io::{Door, Link, Shelf, Sink, Source, TcpDoor, TcpLink};
 use placer::Placing;

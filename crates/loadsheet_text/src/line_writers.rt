@@ -4,7 +4,7 @@ ghost use Rattle.std.specs.Prelude.{◌≡◌, ◌++◌, ◌∷◌, [], OnOk};
 ghost use Rattle.text_lines.specs.Lines.{text_of};
 ghost use Rattle.loadsheet_text.specs.SheetText.{leg_line, number_line, passenger_line, limited_line, underload_line, index_line, chord_line, change_line, limit_mark};
 
-use desk_base::NoMemory;
+use base_words::NoMemory;
 use last_minute::{Leg, Lmc, Sheet};
 use mass_limits::{Limiting, Underload};
 use mass_units::{Kg, Ticks};

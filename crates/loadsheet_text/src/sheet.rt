@@ -8,7 +8,7 @@ use crate::line_writers::{
     limit_mark, push_change, push_chord, push_indices, push_leg, push_limited, push_mass,
     push_number, push_passengers, push_underload,
 };
-use desk_base::NoMemory;
+use base_words::NoMemory;
 use last_minute::{Lmc, Sheet};
 use mass_limits::Limiting;
 use mass_units::Kg;

@@ -12,7 +12,7 @@ ghost use Rattle.mass_units.specs.Rounding.{IsRounded};
 ghost use Rattle.mass_units.specs.Spelling.{sign_text, number_text, five_digits, two_digits, units_text, signed_text, index_text, hundredths_of, short_index_text, IsNumber, IsSignedNumber, IsIndex};
 
 use crate::Ticks;
-use desk_base::NoMemory;
+use base_words::NoMemory;
 use itoa::Buffer;
 use std::alloc::Global;
 use thiserror::Error;

@@ -5,7 +5,7 @@ ghost use Rattle.editions.specs.Acts.{IsWithinLimits};
 ghost use Rattle.aircraft_file.specs.Craft.{AreApart};
 
 use aircraft_file::{Aircraft, Registration, read_aircraft};
-use desk_base::NoMemory;
+use base_words::NoMemory;
 use editions::{Office, Reply, Request, What};
 use flight_state::{Day, FlightKey, FlightName, Leg, Station};
 use keeper::MemoryKeeper;

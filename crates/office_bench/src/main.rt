@@ -6,8 +6,8 @@
 mod desk;
 mod rounds;
 
+use base_words::NoMemory;
 use desk::Desk;
-use desk_base::NoMemory;
 use load_io::{FileShelf, Shelf};
 use rounds::{Kind, good_rounds};
 use std::alloc::Global;

@@ -4,9 +4,9 @@ ghost use Rattle.std.specs.Prelude.{IfOk};
 ghost use Rattle.editions.specs.Acts.{IsPartWithin, IsWithinLimits};
 
 use crate::desk::{Desk, key};
+use base_words::NoMemory;
 use cert_checker::Proven;
 use certificate::{Certificate, Claim, Cuts};
-use desk_base::NoMemory;
 use editions::{FigurePart, Reply, Request, What};
 use flight_state::Lmc;
 use hold_limits::{Path, Task};

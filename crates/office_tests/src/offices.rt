@@ -5,9 +5,9 @@ ghost use Rattle.editions.specs.Acts.{IsPartWithin, IsWithinLimits};
 ghost use Rattle.aircraft_file.specs.Craft.{AreApart};
 
 use aircraft_file::{Aircraft, Registration, read_aircraft};
+use base_words::NoMemory;
 use cert_checker::Proven;
 use certificate::{Certificate, Claim, Cuts};
-use desk_base::NoMemory;
 use editions::{Entry, FigurePart, Office, Refusal, Reply, Request, StartFault, What};
 use flight_history::{new_flight, standing_after};
 use flight_state::{Day, FlightKey, FlightName, FlightState, Leg, Lmc, Station};

@@ -4,8 +4,8 @@ use Rattle.std.proofs.lemmas.Int.{ints, unsigned_abs-mul, fits_signed_from_abs, 
 use Rattle.std.proofs.lemmas.List.Sums.{sum_by_more, sum_by-take-le}
 use Rattle.std.proofs.lemmas.Slice.Zip.{length-zip, get_or-zip}
 use Rattle.std.specs.List.{zip}
-use Rattle.desk_base.specs.Lists.{int_sum_by}
-use Rattle.desk_base.proofs.SignedSums.{int_sum_by-more}
+use Rattle.base_words.specs.Lists.{int_sum_by}
+use Rattle.base_words.proofs.SignedSums.{int_sum_by-more}
 use Rattle.payload.specs.Load.{cabin_index, cabin_mass, zone_index, zone_mass}
 use Rattle.payload.specs.declared.figures.Averages.{Averages}
 use Rattle.payload.specs.declared.figures.Zone.{Zone}

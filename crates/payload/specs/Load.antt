@@ -1,7 +1,7 @@
 -- The load of a cabin, and of loose pieces: passengers and bags at the operator's averages.
 use Rattle.std.specs.Prelude.{ℕ, ◌+◌, ◌*◌, ◌^◌, ◌<◌, ℤ, pos, ◌*ℤ◌, List, sum_by}
 use Rattle.std.specs.List.{zip}
-use Rattle.desk_base.specs.Lists.{int_sum_by}
+use Rattle.base_words.specs.Lists.{int_sum_by}
 use Rattle.payload.specs.declared.figures.Averages.{Averages}
 use Rattle.payload.specs.declared.figures.Load.{Load}
 use Rattle.payload.specs.declared.figures.Zone.{Zone}

@@ -7,8 +7,8 @@ use Rattle.std.proofs.lemmas.List.Sorted.{IsPermutation-sym, IsPermutation-map, 
 use Rattle.std.specs.Prelude.{All, AllPairs, Contains, IsPermutation, IsSorted, MatchOption}
 use Rattle.std.specs.List.{filter}
 use Rattle.std.specs.Cmp.Lexicographic.{slice_cmp}
-use Rattle.desk_base.specs.Lists.{Extends}
-use Rattle.desk_base.proofs.PairLemmas.{AllPairs-tail}
+use Rattle.base_words.specs.Lists.{Extends}
+use Rattle.base_words.proofs.PairLemmas.{AllPairs-tail}
 use Rattle.hold_limits.specs.Problem.{Problem}
 use Rattle.hold_limits.specs.Placement.{Key, IsAtMost, IsBest, key, distance}
 use Rattle.hold_limits.proofs.KeyOrder.{IsAtMost-refl, IsAtMost-trans, IsAtMost-antisymm}

@@ -15,7 +15,7 @@ use Rattle.std.specs.Cmp.Lexicographic.{slice_cmp}
 use Rattle.certificate.specs.Good.{IsBefore}
 use Rattle.hold_limits.proofs.KeyOrder.{slice_cmp_equal}
 use Rattle.std.specs.List.{remove}
-use Rattle.desk_base.proofs.PairLemmas.{AllPairs-head, AllPairs-tail}
+use Rattle.base_words.proofs.PairLemmas.{AllPairs-head, AllPairs-tail}
 
 pub Contains-cons_cases : {X : Type 0} (x : X) (xs : List X) (y : X) → Contains (x ∷ xs) y → (x ≡ y) ⊎ Contains xs y
 Contains-cons_cases x xs y inside = ⊎_elim

@@ -8,9 +8,9 @@ ghost use Rattle.placer.specs.Answers.{IfBest, IfBudget, IfCertified, IfNoneFits
 ghost use Rattle.placer.specs.Near.{IsNearCertificate};
 
 use crate::best_first::near_certificate;
+use base_words::NoMemory;
 use cert_checker::{NoPlan, Proven};
 use certificate::{Certificate, Claim};
-use desk_base::NoMemory;
 use hold_limits::Task;
 use std::alloc::Global;
 

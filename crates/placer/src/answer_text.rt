@@ -5,9 +5,9 @@ ghost use Rattle.placer.specs.Answers.{IfBest, IfNoneFits};
 ghost use Rattle.placer.specs.AnswerText.{answer_text, budget_text};
 
 use crate::answer::Answer;
+use base_words::NoMemory;
 use cert_checker::{NoPlan, Proven};
 use certificate::push_certificate;
-use desk_base::NoMemory;
 use hold_limits::Task;
 use plan_text::push_plan;
 use std::alloc::Global;

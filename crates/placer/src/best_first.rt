@@ -21,8 +21,8 @@ ghost use Rattle.placer.specs.Near.{AreMoreThan, IsNear, IsNearCertificate};
 ghost use Rattle.placer.specs.Search.{AddsChildren, HasTaken, IsPrefix};
 
 use crate::queue::{Queue, Waiting};
+use base_words::NoMemory;
 use certificate::{Certificate, Claim, Cuts};
-use desk_base::NoMemory;
 use hold_limits::{Path, Task};
 use hold_partial::{Partial, move_to};
 use std::alloc::Global;

@@ -9,7 +9,7 @@ ghost use Rattle.hold_limits.specs.Placement.{IsAtMost};
 ghost use Rattle.certificate.specs.Evidence.{paths_of};
 ghost use Rattle.placer.specs.Keys.{key_of, key_of_entry, prefixes};
 
-use desk_base::NoMemory;
+use base_words::NoMemory;
 use hold_limits::Path;
 use std::alloc::Global;
 use std::cmp::Reverse;

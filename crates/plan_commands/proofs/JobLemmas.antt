@@ -14,7 +14,7 @@ use Rattle.certificate.specs.declared.parts.Certificate.{Certificate}
 use Rattle.cert_checker.specs.Claims.{HasNoPlacement, IsGoodFor}
 use Rattle.cert_checker.proofs.GoodLemmas.{good-best, good-none}
 use Rattle.cert_checker.specs.Certified.{Certified}
-use Rattle.desk_base.specs.declared.NoMemory.{NoMemory}
+use Rattle.base_words.specs.declared.NoMemory.{NoMemory}
 use Rattle.std.specs.declared.vec.Vec.{Vec}
 use Rattle.std.specs.declared.alloc.Global.{Global}
 use Rattle.placer.specs.Near.{AreMoreThan, IsNear, IsNearCertificate}

@@ -1,6 +1,6 @@
 -- How a run ends, and what it leaves.
 use Rattle.std.specs.Prelude.{◌≡◌, ◌≢◌, ℕ, List, Option, Some, Result, Ok, Err, IfOk}
-use Rattle.desk_base.specs.Faults.{Rose}
+use Rattle.base_words.specs.Faults.{Rose}
 use Rattle.load_io.specs.Shelf.{Files}
 use Rattle.load_io.specs.Sink.{Appends, AppendsPart}
 use Rattle.plan_commands.specs.declared.ending.Outcome.{Outcome}

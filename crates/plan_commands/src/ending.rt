@@ -1,6 +1,6 @@
 //! How a run ends.
 
-use desk_base::NoMemory;
+use base_words::NoMemory;
 use thiserror::Error;
 
 /// What a run is to print, and how it then ends.

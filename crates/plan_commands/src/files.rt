@@ -1,7 +1,7 @@
 //! Reading the files that a job names.
 
 ghost use Rattle.std.specs.Prelude.{◌≡◌, ◌≢◌, ◌≤◌, Err, IfOk, IfErr, IfSome, length};
-ghost use Rattle.desk_base.specs.Faults.{Rose};
+ghost use Rattle.base_words.specs.Faults.{Rose};
 ghost use Rattle.load_io.specs.Shelf.{IsWhole, HasMoreThan};
 ghost use Rattle.plan_commands.specs.ReplyText.{longest_task, longest_certificate, long_text};
 ghost use Rattle.tree_certificate.specs.Listed.{listed_trees};

@@ -4,7 +4,7 @@ ghost use Rattle.std.specs.Prelude.{◌≡◌, ◌≢◌, [], drop, IsErr, IsOkA
 ghost use Rattle.std.specs.IoError.{error_kind};
 ghost use Rattle.std.specs.Vec.Iter.{into_iter_items};
 
-use desk_base::NoMemory;
+use base_words::NoMemory;
 use std::alloc::Global;
 use std::env::Args;
 use std::io::{self, ErrorKind};

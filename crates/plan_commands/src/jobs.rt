@@ -1,7 +1,7 @@
 //! What the program does for each command.
 
 ghost use Rattle.std.specs.Prelude.{◌≡◌, ◌≢◌, ◌≤◌, ◌++◌, ℕ, List, All, Err, IfOk, IfErr, OnOk, length, Some};
-ghost use Rattle.desk_base.specs.Faults.{Rose};
+ghost use Rattle.base_words.specs.Faults.{Rose};
 ghost use Rattle.hold_parts.specs.declared.parts.Item.{Item};
 ghost use Rattle.certificate.specs.Evidence.{claimed};
 ghost use Rattle.generated_load.specs.Load.{generated_problem};
@@ -19,9 +19,9 @@ use crate::files::{any_from, certificate_from, task_from};
 use crate::near_jobs::{has_good_evidence, judgement, placement};
 use crate::reply_text::push_number_line;
 use crate::tree_jobs::{judgement_of_any, placing_by_trees};
+use base_words::NoMemory;
 use cert_checker::{NoPlan, Proven};
 use certificate::Certificate;
-use desk_base::NoMemory;
 use generated_load::generated_task;
 use hold_limits::{Item, Task};
 use load_io::Shelf;

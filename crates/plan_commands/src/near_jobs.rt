@@ -11,9 +11,9 @@ ghost use Rattle.plan_commands.specs.NearReply.{IsPlacing, IsJudgement};
 
 use crate::ending::{Outcome, Reply};
 use crate::reply_text::{good_line, rejected_line};
+use base_words::NoMemory;
 use cert_checker::check;
 use certificate::Certificate;
-use desk_base::NoMemory;
 use hold_limits::{Item, Task};
 use placer::{Answer, Placing, write_answer};
 use std::alloc::Global;

@@ -1,7 +1,7 @@
 //! The reply to a command, and its printing.
 
 ghost use Rattle.std.specs.Prelude.{◌≡◌, ◌≢◌, ℕ, List, None, Err, IfOk};
-ghost use Rattle.desk_base.specs.Faults.{Rose};
+ghost use Rattle.base_words.specs.Faults.{Rose};
 ghost use Rattle.plan_commands.specs.Arguments.{arguments_of};
 ghost use Rattle.plan_commands.specs.Commands.{AreCommand};
 ghost use Rattle.plan_commands.specs.ReplyText.{usage_text};

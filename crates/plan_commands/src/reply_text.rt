@@ -6,9 +6,9 @@ ghost use Rattle.plan_commands.specs.ReplyText.{hold_fault_number, task_fault_nu
 ghost use Rattle.text_lines.specs.Lines.{text_of};
 ghost use Rattle.certificate.specs.CertificateText.{path_line};
 
+use base_words::NoMemory;
 use cert_checker::Reject;
 use certificate::{CertFault, Claim, push_path};
-use desk_base::NoMemory;
 use hold_limits::{HoldFault, Path, Task, TaskFault};
 use problem_text::TextFault;
 use std::alloc::Global;

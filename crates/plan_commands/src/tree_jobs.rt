@@ -15,7 +15,7 @@ use crate::files::LONGEST_CERTIFICATE;
 use crate::near_jobs::{judgement, placement, read_names};
 use crate::reply_text::{good_line, rejected_trees_line, undecided_line};
 use crate::spelled::can_be_spelled;
-use desk_base::NoMemory;
+use base_words::NoMemory;
 use hold_limits::Task;
 use placer::Placing;
 use plan_text::push_plan;

@@ -6,7 +6,7 @@ ghost use Rattle.hold_limits.specs.Placement.{IsSound, placed};
 ghost use Rattle.text_lines.specs.Lines.{text_of};
 ghost use Rattle.plan_text.specs.PlanText.{one_line, place_lines, balance_lines, difference_lines, plan_text};
 
-use desk_base::NoMemory;
+use base_words::NoMemory;
 use hold_limits::{Path, Task, lateral_of, outcome};
 use mass_units::Ticks;
 use telex::Builder;

@@ -5,9 +5,9 @@ use Rattle.std.specs.List.{AllByRecursion, AllZip, filter, list_all, list_any}
 use Rattle.std.proofs.lemmas.Bool.{cases_Bool, false≢true}
 use Rattle.std.proofs.lemmas.Bool.Decides.{eqb_tells}
 use Rattle.std.proofs.lemmas.Int.{ints}
-use Rattle.desk_base.specs.Lists.{int_sum_by}
-use Rattle.desk_base.proofs.Arrangements.{Ranked}
-use Rattle.desk_base.proofs.PairLemmas.{Ranked-from_AllPairs}
+use Rattle.base_words.specs.Lists.{int_sum_by}
+use Rattle.base_words.proofs.Arrangements.{Ranked}
+use Rattle.base_words.proofs.PairLemmas.{Ranked-from_AllPairs}
 use Rattle.hold_parts.specs.declared.parts.Item.{Item}
 use Rattle.hold_parts.specs.Limits.{is_listed}
 use Rattle.hold_parts.specs.Twins.{AreTwins, are_twins}

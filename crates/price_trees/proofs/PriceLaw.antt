@@ -8,9 +8,9 @@ use Rattle.std.proofs.lemmas.Bool.Decides.{eqb_tells}
 use Rattle.std.proofs.lemmas.Int.{ints, clamps}
 use Rattle.std.proofs.lemmas.List.Sums.{sum_by-cons}
 use Rattle.std.proofs.lemmas.List.Elements.{recursion_from_All, All-contains}
-use Rattle.desk_base.specs.Lists.{int_sum_by}
-use Rattle.desk_base.proofs.Arrangements.{Ranked}
-use Rattle.desk_base.proofs.PairLemmas.{Ranked-from_AllPairs}
+use Rattle.base_words.specs.Lists.{int_sum_by}
+use Rattle.base_words.proofs.Arrangements.{Ranked}
+use Rattle.base_words.proofs.PairLemmas.{Ranked-from_AllPairs}
 use Rattle.hold_parts.specs.declared.parts.Combined.{Combined}
 use Rattle.hold_parts.specs.declared.parts.Cumulative.{Cumulative}
 use Rattle.hold_parts.specs.declared.parts.Item.{Item}

@@ -112,11 +112,11 @@ module _ (version : Version) (ps : List Position) (spelled : All IsSpelledPositi
       (to_lateral l0 l1 l2 l3 a b c).fails fault (fails_within holds l3 fault fails)
 
   module _ (here there : Point) (got : Sections) (s : AreSections version ps here there got) where
-    pub lateral : LateralRead version ps s.l3 s.l4 got.lateral
-    lateral = lateral_read version ps s.l3 s.l4 got.lateral s.lateral
+    pub lateral : LateralRead version ps s.after_cumulative s.after_lateral got.lateral
+    lateral = lateral_read version ps s.after_cumulative s.after_lateral got.lateral s.lateral
 
-    items_are : PartBetween item_line IsSpelledItem IsAny s.l4 s.l5 got.items.items
-    items_are = whole_part item_line IsSpelledItem s.l4.rest.now s.l5.rest.now s.l4.number s.l5.number got.items.items s.items
+    items_are : PartBetween item_line IsSpelledItem IsAny s.after_lateral s.after_items got.items.items
+    items_are = whole_part item_line IsSpelledItem s.after_lateral.rest.now s.after_items.rest.now s.after_lateral.number s.after_items.number got.items.items s.items
 
     -- the task with these sections and indices
     abbrev pub task_read : Indices → Problem
@@ -147,10 +147,10 @@ module _ (version : Version) (ps : List Position) (spelled : All IsSpelledPositi
 
     to_last : Leads (limits version ps) here last there
     to_last =
-        then (to_lateral here s.l1 s.l2 s.l3 (section_part _ _ keep_pair _ _ _ _ got.excludes.items s.excludes) (section_part _ _ keep_combined _ _ _ _ got.combined.items s.combined) (section_part _ _ keep_cumulative _ _ _ _ got.cumulative.items s.cumulative))
-        (then (past_lateral version ps spelled s.excludes.said s.combined.said s.cumulative.said s.l3 s.l4 lateral.said lateral.says)
-        (then (past_run (starts_with_items version ps spelled s.excludes.said s.combined.said s.cumulative.said lateral.said) s.l4 s.l5 items_are)
-        (past_run (starts_with_loose version ps spelled s.excludes.said s.combined.said s.cumulative.said lateral.said got.items.items) s.l5 there (section_part _ _ keep_loose _ _ _ _ got.loose.items s.loose))))
+        then (to_lateral here s.after_excludes s.after_combined s.after_cumulative (section_part _ _ keep_pair _ _ _ _ got.excludes.items s.excludes) (section_part _ _ keep_combined _ _ _ _ got.combined.items s.combined) (section_part _ _ keep_cumulative _ _ _ _ got.cumulative.items s.cumulative))
+        (then (past_lateral version ps spelled s.excludes.said s.combined.said s.cumulative.said s.after_cumulative s.after_lateral lateral.said lateral.says)
+        (then (past_run (starts_with_items version ps spelled s.excludes.said s.combined.said s.cumulative.said lateral.said) s.after_lateral s.after_items items_are)
+        (past_run (starts_with_loose version ps spelled s.excludes.said s.combined.said s.cumulative.said lateral.said got.items.items) s.after_items there (section_part _ _ keep_loose _ _ _ _ got.loose.items s.loose))))
 
     holds_indices : Holds last indices task_read
     holds_indices = record {

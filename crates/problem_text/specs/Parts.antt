@@ -26,18 +26,22 @@ pub data IsLateral (ps : List Position) (here there : Lines) : Version → Optio
 
 -- the sections after the positions lie between two points of a text
 pub record AreSections (version : Version) (ps : List Position) (here there : Lines) (got : Sections) : Type 0 where
-  pub l1 : Lines
-  pub l2 : Lines
-  pub l3 : Lines
-  pub l4 : Lines
-  pub l5 : Lines
-  pub excludes : IsSection (exclude_line ps) (IsSpelledExclude ps) keep_pair here.rest.now l1.rest.now here.number l1.number got.excludes.items
-  pub combined : IsSection (combined_line ps) (IsSpelledCombined ps) keep_combined l1.rest.now l2.rest.now l1.number l2.number got.combined.items
-  pub cumulative : IsSection (cumulative_line ps) (IsSpelledCumulative ps) keep_cumulative l2.rest.now l3.rest.now l2.number l3.number
-      got.cumulative.items
-  pub lateral : IsLateral ps l3 l4 version got.lateral
-  pub items : IsSection item_line IsSpelledItem (λ x. x) l4.rest.now l5.rest.now l4.number l5.number got.items.items
-  pub loose : IsSection (loose_line ps) (IsSpelledLoose ps) keep_loose l5.rest.now there.rest.now l5.number there.number got.loose.items
+  pub after_excludes : Lines
+  pub after_combined : Lines
+  pub after_cumulative : Lines
+  pub after_lateral : Lines
+  pub after_items : Lines
+  pub excludes : IsSection (exclude_line ps) (IsSpelledExclude ps) keep_pair here.rest.now after_excludes.rest.now
+      here.number after_excludes.number got.excludes.items
+  pub combined : IsSection (combined_line ps) (IsSpelledCombined ps) keep_combined after_excludes.rest.now after_combined.rest.now
+      after_excludes.number after_combined.number got.combined.items
+  pub cumulative : IsSection (cumulative_line ps) (IsSpelledCumulative ps) keep_cumulative after_combined.rest.now after_cumulative.rest.now
+      after_combined.number after_cumulative.number got.cumulative.items
+  pub lateral : IsLateral ps after_cumulative after_lateral version got.lateral
+  pub items : IsSection item_line IsSpelledItem (λ x. x) after_lateral.rest.now after_items.rest.now after_lateral.number
+      after_items.number got.items.items
+  pub loose : IsSection (loose_line ps) (IsSpelledLoose ps) keep_loose after_items.rest.now there.rest.now after_items.number
+      there.number got.loose.items
 
 -- the indices are in their spelling
 pub record AreIndices (at : Indices) : Type 0 where

@@ -13,7 +13,7 @@ ghost use Rattle.text_lines.specs.Names.{byte_of};
 ghost use Rattle.text_lines.specs.WordRuns.{run_text, name_text};
 ghost use Rattle.text_lines.specs.Sections.{Says};
 
-use desk_base::NoMemory;
+use base_words::NoMemory;
 use hold_limits::{Combined, Cumulative, Loose, Places};
 use mass_units::{Kg, read_number};
 use std::alloc::Global;

@@ -3,7 +3,7 @@
 use crate::limit_readers::{read_combined, read_cumulative, read_exclude, read_loose, read_side};
 use crate::line_readers::read_item;
 use crate::position_reader::read_position;
-use desk_base::NoMemory;
+use base_words::NoMemory;
 use hold_limits::{Combined, Cumulative, Item, Loose, Position};
 use std::alloc::Global;
 use text_lines::{LineReader, Names};

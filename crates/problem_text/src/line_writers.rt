@@ -8,7 +8,7 @@ ghost use Rattle.text_lines.specs.Lines.{line_of};
 ghost use Rattle.problem_text.specs.WordRuns.{fit_text};
 ghost use Rattle.text_lines.specs.WordRuns.{run_text, name_text};
 
-use desk_base::NoMemory;
+use base_words::NoMemory;
 use hold_limits::{Combined, Cumulative, Fit, Hold, Item, Loose, Position};
 use mass_units::{Kg, Ticks};
 use telex::Builder;

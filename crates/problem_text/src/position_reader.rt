@@ -10,7 +10,7 @@ ghost use Rattle.problem_text.specs.WordRuns.{fit_text, IsSpelledFit};
 ghost use Rattle.text_lines.specs.WordRuns.{run_text};
 ghost use Rattle.problem_text.specs.TaskText.{position_word, position_line, NamesKindsUnlessBulk, IsSpelledPosition};
 
-use desk_base::NoMemory;
+use base_words::NoMemory;
 use hold_limits::{Fit, Fits, Name, Position, is_kind};
 use mass_units::{Kg, read_number, read_signed};
 use std::alloc::Global;

@@ -11,7 +11,7 @@ use crate::line_writers::{
     push_band_line, push_combined, push_cumulative, push_exclude, push_index_line, push_item,
     push_lateral_most, push_loose, push_position, push_side,
 };
-use desk_base::NoMemory;
+use base_words::NoMemory;
 use hold_limits::{Hold, Item, Loose, Position, Task};
 use std::alloc::Global;
 use telex::Builder;

@@ -1,6 +1,6 @@
 // The worked day over one connection: requests, each with its answer.
 use aircraft_file::read_aircraft;
-use desk_base::NoMemory;
+use base_words::NoMemory;
 use desk_http::{ConnEnd, Solo, Tools, serve_connection};
 use editions::Office;
 use http_wire::Refusal;

@@ -4,7 +4,7 @@ use Rattle.std.specs.Result.{OnOk}
 use Rattle.std.proofs.lemmas.Cmp.{nat_list_cmp_total}
 use Rattle.std.proofs.lemmas.List.Elements.{All-nil, All-cons, All-head}
 use Rattle.std.proofs.lemmas.List.Quantifiers.{all_pairs_push}
-use Rattle.desk_base.proofs.PairLemmas.{AllPairs-head, AllPairs-tail}
+use Rattle.base_words.proofs.PairLemmas.{AllPairs-head, AllPairs-tail}
 use Rattle.keeper.specs.declared.row.KeptRow.{KeptRow}
 use Rattle.keeper.specs.Tables.{IsBefore, AreInKeyOrder}
 use Rattle.sqlite_keeper.specs.Table.{ComesLast}

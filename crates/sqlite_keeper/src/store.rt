@@ -1,7 +1,7 @@
 //! A keeper over a file.
 
 ghost use Rattle.std.specs.Prelude.{◌≡◌, ◌≢◌, ◌≤◌, Err, IfOk, string_bytes};
-ghost use Rattle.desk_base.specs.Faults.{Rose};
+ghost use Rattle.base_words.specs.Faults.{Rose};
 ghost use Rattle.keeper.specs.Tables.{AreInKeyOrder};
 ghost use Rattle.sqlite_keeper.specs.Path.{keeper_at};
 

@@ -7,7 +7,7 @@ ghost use Rattle.telex.specs.Parts.{PlacedPart, is_separator, parts_of, AreParts
 ghost use Rattle.telex.specs.declared.reading.TelexFault.{TelexFault};
 ghost use Rattle.telex.specs.Text.{longest_line, is_foreign, is_line_feed, bad_byte, long_line, IsEnded, IsTelex, IsRefusedWith};
 
-use desk_base::NoMemory;
+use base_words::NoMemory;
 use std::alloc::Global;
 use std::marker::Model;
 use thiserror::Error;

@@ -4,7 +4,7 @@ ghost use Rattle.mass_units.specs.Spelling.{number_text, signed_text, index_text
 ghost use Rattle.telex.specs.Text.{line_feed, space};
 
 use crate::reading::LINE_FEED;
-use desk_base::NoMemory;
+use base_words::NoMemory;
 use itoa::Buffer;
 use mass_units::{Kg, Ticks, write_number, write_ticks2, write_ticks5};
 use std::alloc::Global;

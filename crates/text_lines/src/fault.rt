@@ -1,7 +1,7 @@
 ghost use Rattle.std.specs.Prelude.{◌≡◌};
 ghost use Rattle.text_lines.specs.declared.fault.LineFault.TheVariants.{NoMemory as out_of_memory};
 
-use desk_base::NoMemory;
+use base_words::NoMemory;
 use thiserror::Error;
 
 /// Why the lines of a text are refused. Lines count from 1.

@@ -9,7 +9,7 @@ ghost use Rattle.text_lines.specs.WordRuns.{name_text};
 ghost use Rattle.text_lines.specs.Names.{byte_of};
 
 use crate::cuts::{after_prefix, cut};
-use desk_base::NoMemory;
+use base_words::NoMemory;
 use hold_limits::Position;
 use hold_parts::PositionNames;
 use std::alloc::Global;

@@ -7,7 +7,7 @@ ghost use Rattle.text_lines.specs.Sections.{ArePart, IsOfKind};
 use crate::fault::LineFault;
 use crate::lines::Lines;
 use crate::sections::LineReader;
-use desk_base::NoMemory;
+use base_words::NoMemory;
 use std::alloc::Global;
 
 /// What the next line says. Fails where it is not of this kind.

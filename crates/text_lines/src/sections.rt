@@ -3,7 +3,7 @@
 ghost use Rattle.std.specs.Prelude.{IfOk};
 
 use crate::lines::Lines;
-use desk_base::NoMemory;
+use base_words::NoMemory;
 use std::alloc::Global;
 
 /// A kind of line that a task may have any number of, in a row.

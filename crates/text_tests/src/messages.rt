@@ -1,7 +1,7 @@
 // The office's three documents split by hand, the offsets of faults, and texts of a builder read back.
 use crate::pass;
+use base_words::NoMemory;
 use case_rows::Subject;
-use desk_base::NoMemory;
 use std::alloc::Global;
 use std::test::Fail;
 use telex::{Builder, LONGEST_LINE, Message, Part, cut};

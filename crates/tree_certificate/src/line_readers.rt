@@ -11,8 +11,8 @@ ghost use Rattle.tree_certificate.specs.declared.parts.Operation.TheVariants.{Sp
 ghost use Rattle.tree_certificate.specs.TreeText.{clique_line, operation_line, least_line, IsSpelledSet, IsSpelledOperation, IsSpelledLeast};
 
 use crate::parts::Operation;
+use base_words::NoMemory;
 use certificate::NameTable;
-use desk_base::NoMemory;
 use mass_units::read_number;
 use position_set::PositionSet;
 use std::alloc::Global;

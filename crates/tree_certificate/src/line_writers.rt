@@ -11,7 +11,7 @@ ghost use Rattle.tree_certificate.specs.Listed.{listed_prices, listed_sibling};
 ghost use Rattle.tree_certificate.specs.TreeText.{clique_line, end_word, price_text, price_line, operation_line, sibling_lines};
 
 use crate::parts::{End, Operation, Price, PriceList, Sibling};
-use desk_base::NoMemory;
+use base_words::NoMemory;
 use hold_limits::Hold;
 use position_set::PositionSet;
 use telex::Builder;

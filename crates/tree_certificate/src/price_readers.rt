@@ -14,8 +14,8 @@ ghost use Rattle.tree_certificate.specs.Reading.{holder_word, IsHolder, HasNoPri
 ghost use Rattle.tree_certificate.specs.declared.parts.End.{End};
 
 use crate::parts::{End, Price, PriceList};
+use base_words::NoMemory;
 use certificate::NameTable;
-use desk_base::NoMemory;
 use mass_units::{has_plain_front, read_number};
 use std::alloc::Global;
 use text_lines::{after_prefix, cut, split_once};

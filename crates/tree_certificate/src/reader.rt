@@ -14,8 +14,8 @@ ghost use Rattle.tree_certificate.specs.Reading.{HasNoLeastAhead, IsSibling, Are
 use crate::line_readers::{CliqueLines, OperationLines, read_least};
 use crate::parts::{PriceList, Sibling, TreeCertificate, root_word};
 use crate::price_readers::read_price_list;
+use base_words::NoMemory;
 use certificate::{CertFault, NameTable, after_start, next_claim};
-use desk_base::NoMemory;
 use hold_limits::{Position, Task};
 use std::alloc::Global;
 use text_lines::{LineFault, Lines, expect_line, read_section};

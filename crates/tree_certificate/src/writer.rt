@@ -8,8 +8,8 @@ ghost use Rattle.tree_certificate.specs.TreeText.{start_line, tree_text, IsSpell
 
 use crate::line_writers::{push_cliques, push_operations, push_price_lists, push_siblings};
 use crate::parts::{TreeCertificate, root_word};
+use base_words::NoMemory;
 use certificate::push_claim;
-use desk_base::NoMemory;
 use hold_limits::Task;
 use std::alloc::Global;
 use telex::Builder;

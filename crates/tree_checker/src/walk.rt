@@ -15,7 +15,7 @@ ghost use Rattle.tree_checker.specs.Steps.{prices_listed, IsReady, tree_of, Stan
 
 use crate::evidence::{TreeEvidence, opened};
 use crate::operations::{Left, left_after};
-use desk_base::NoMemory;
+use base_words::NoMemory;
 use hold_choices::Choices;
 use hold_reach::Span;
 use std::alloc::Global;

@@ -5,11 +5,11 @@ use crate::ground::Ground;
 use crate::ledger::Ledger;
 use crate::opening::free;
 use crate::showing::show;
-use desk_base::NoMemory;
+use base_words::NoMemory;
+use finder_prices::Held;
+use finder_tables::{End, Limit, Load, TickSpan};
 use hold_choices::Choices;
 use position_set::PositionSet;
-use raised_prices::Held;
-use search_tables::{End, Limit, Load, TickSpan};
 use tree_certificate::Operation;
 
 /// A price of a kilogram that outweighs what the hold indices of a hold differ by.

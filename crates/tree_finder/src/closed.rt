@@ -1,7 +1,7 @@
 //! Why a choice is not looked at any further.
 
-use desk_base::NoMemory;
-use search_tables::Path;
+use base_words::NoMemory;
+use finder_tables::Path;
 
 /// Why a choice is not looked at any further.
 #[derive(Drop)]

@@ -6,11 +6,11 @@ use crate::ground::Ground;
 use crate::ledger::Ledger;
 use crate::opening::free;
 use crate::showing::{append, firsts, show};
-use desk_base::NoMemory;
+use base_words::NoMemory;
+use finder_prices::Pair;
+use finder_remainders::{Class, forbidden_class};
+use finder_tables::{End, TickSpan, sound_index};
 use hold_choices::Choices;
-use index_remainders::{Class, forbidden_class};
-use raised_prices::Pair;
-use search_tables::{End, TickSpan, sound_index};
 use tree_certificate::Operation;
 
 /// So many choices are looked at by what is cheap to see, at most, to close one.

@@ -1,8 +1,8 @@
 //! How a choice is split in two.
 
 use arrayvec::ArrayVec;
+use finder_tables::{Load, each_of, has, one};
 use position_set::PositionSet;
-use search_tables::{Load, each_of, has, one};
 
 /// A split of the positions of one container: the first part has the lesser influences.
 #[derive(Clone, Copy)]

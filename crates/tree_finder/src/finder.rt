@@ -9,11 +9,11 @@ use crate::ground::Ground;
 use crate::ledger::Ledger;
 use crate::opening::{copy_of_pair, free, opening_prices, raised};
 use crate::showing::{append, append_all, firsts, show};
-use desk_base::NoMemory;
+use base_words::NoMemory;
+use finder_paths::{Met, is_among};
+use finder_prices::{Held, Pair};
+use finder_tables::{End, Path, TickSpan, load_of, sound_index};
 use hold_choices::Choices;
-use near_paths::{Met, is_among};
-use raised_prices::{Held, Pair};
-use search_tables::{End, Path, TickSpan, load_of, sound_index};
 use tree_certificate::{Operation, PriceList};
 
 /// How many steps prices are raised at each look.

@@ -3,11 +3,11 @@
 use crate::cuts::{Cut, best_cut, closing_cut, leaders_in, leaders_of};
 use crate::narrowing::Narrowing;
 use arrayvec::ArrayVec;
-use desk_base::NoMemory;
+use base_words::NoMemory;
+use finder_paths::{mend, reach};
+use finder_tables::{Load, Path, TickSpan};
 use hold_choices::{Choices, is_missed};
 use hold_limits::Task;
-use near_paths::{mend, reach};
-use search_tables::{Load, Path, TickSpan};
 use std::alloc::Global;
 
 /// A task, ready to be searched.

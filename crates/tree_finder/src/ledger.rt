@@ -1,7 +1,7 @@
 //! The prices that the operations of a search name.
 
-use desk_base::NoMemory;
-use raised_prices::{Held, Prices};
+use base_words::NoMemory;
+use finder_prices::{Held, Prices};
 use std::alloc::Global;
 use tree_certificate::{End, Price, PriceList};
 
@@ -29,8 +29,8 @@ fn listed(alloc: Global, prices: &[i64]) -> Result<Vec<Price>, NoMemory> {
 
 fn list_of(alloc: Global, prices: &Prices) -> Result<PriceList, NoMemory> {
     let end = match prices.end {
-        search_tables::End::Low => End::Low,
-        search_tables::End::High => End::High,
+        finder_tables::End::Low => End::Low,
+        finder_tables::End::High => End::High,
     };
     Ok(PriceList {
         end,

@@ -1,10 +1,10 @@
 //! A task as the search sees it.
 
 use arrayvec::ArrayVec;
+use finder_tables::{Cliques, Container, Limit, Load, Place, TickSpan, cliques_of, one, set_at};
 use hold_choices::Choices;
 use hold_limits::{Hold, Item, Limit as MassLimit, Task};
 use position_set::PositionSet;
-use search_tables::{Cliques, Container, Limit, Load, Place, TickSpan, cliques_of, one, set_at};
 
 /// The rank of the first twin of a container, which may be itself.
 fn first_twin(task: &Task, item: &Item) -> u8 {

@@ -2,10 +2,10 @@
 
 use crate::ground::Ground;
 use crate::ledger::Ledger;
-use desk_base::NoMemory;
+use base_words::NoMemory;
+use finder_prices::{Held, Pair, Prices, Raising};
+use finder_tables::{End, Load, Path, TickSpan};
 use hold_choices::Choices;
-use raised_prices::{Held, Pair, Prices, Raising};
-use search_tables::{End, Load, Path, TickSpan};
 use std::alloc::Global;
 
 /// How many steps prices are raised before the first look.

@@ -3,10 +3,10 @@
 use crate::closed::Closed;
 use crate::ground::Ground;
 use crate::ledger::Ledger;
-use desk_base::NoMemory;
+use base_words::NoMemory;
+use finder_prices::Held;
+use finder_tables::{Path, TickSpan};
 use hold_choices::Choices;
-use raised_prices::Held;
-use search_tables::{Path, TickSpan};
 use tree_certificate::Operation;
 
 /// Appends an operation.

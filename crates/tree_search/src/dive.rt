@@ -1,9 +1,9 @@
 //! The least of the paths that are as near as any, with a tree for each smaller neighbour.
 
-use desk_base::NoMemory;
+use base_words::NoMemory;
+use finder_prices::Pair;
+use finder_tables::{Path, copy_of, each_of, exchange, number_at, one, put, rising, set_at};
 use hold_choices::Choices;
-use raised_prices::Pair;
-use search_tables::{Path, copy_of, each_of, exchange, number_at, one, put, rising, set_at};
 use std::alloc::Global;
 use tree_certificate::Sibling;
 use tree_finder::{Finder, Verdict};

@@ -1,9 +1,9 @@
 //! The least distance of a path, with the tree that no path is nearer.
 
-use desk_base::NoMemory;
+use base_words::NoMemory;
+use finder_prices::Pair;
+use finder_tables::{Load, Path, TickSpan, index_of};
 use hold_choices::Choices;
-use raised_prices::Pair;
-use search_tables::{Load, Path, TickSpan, index_of};
 use std::alloc::Global;
 use tree_certificate::Operation;
 use tree_finder::{Finder, Verdict};

@@ -1,6 +1,6 @@
 //! The lists of prices that the operations of a certificate name.
 
-use desk_base::NoMemory;
+use base_words::NoMemory;
 use std::alloc::Global;
 use tree_certificate::{Operation, PriceList, Sibling};
 

@@ -17,17 +17,17 @@ mod choice_prices_tests;
 #[cfg(test)]
 mod choices;
 #[cfg(test)]
-mod index_remainders_tests;
+mod finder_paths_tests;
+#[cfg(test)]
+mod finder_prices_tests;
+#[cfg(test)]
+mod finder_remainders_tests;
+#[cfg(test)]
+mod finder_tables_tests;
 #[cfg(test)]
 mod judgements;
 #[cfg(test)]
-mod near_paths_tests;
-#[cfg(test)]
 mod plain_prices;
-#[cfg(test)]
-mod raised_prices_tests;
-#[cfg(test)]
-mod search_tables_tests;
 #[cfg(test)]
 mod small_load;
 #[cfg(test)]

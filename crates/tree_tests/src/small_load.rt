@@ -1,7 +1,7 @@
 // A load of two containers and four positions, two on each side of the reference.
 use arrayvec::ArrayVec;
+use finder_tables::{Cliques, Container, Limit, Load, Place, TickSpan, one};
 use position_set::PositionSet;
-use search_tables::{Cliques, Container, Limit, Load, Place, TickSpan, one};
 
 // The set of two numbers.
 pub fn pair(first: u8, second: u8) -> PositionSet {

@@ -4,7 +4,7 @@ use Rattle.std.proofs.lemmas.Bool.Decides.{nat_tests}
 use Rattle.std.proofs.lemmas.List.Sums.{position_or_len_is}
 use Rattle.std.proofs.lemmas.List.Sums.{sum_by-le}
 use Rattle.std.specs.List.{position, position_or_len}
-use Rattle.desk_base.proofs.Arrangements.{sum_by-map}
+use Rattle.base_words.proofs.Arrangements.{sum_by-map}
 use Rattle.aircraft_file.specs.Craft.{Craft}
 use Rattle.trim.specs.declared.figures.LooseFigure.{LooseFigure}
 use Rattle.trim.specs.declared.loose.Stowed.{Stowed}

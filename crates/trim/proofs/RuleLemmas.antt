@@ -10,7 +10,7 @@ use Rattle.mass_limits.specs.declared.figures.MassRule.TheVariants.{Ramp, ZeroFu
 use Rattle.mass_limits.specs.MassRule.{is_broken, rules}
 use Rattle.mass_limits.specs.Masses.{zero_fuel_mass, take_off_mass, landing_mass}
 use Rattle.envelope.specs.Outline.{IsInside}
-use Rattle.desk_base.specs.Lists.{int_sum_by}
+use Rattle.base_words.specs.Lists.{int_sum_by}
 use Rattle.hold_limits.specs.Lateral.{IsWithinLateral}
 use Rattle.hold_limits.specs.Placement.{placed, hold_index, lateral_difference}
 use Rattle.aircraft_file.specs.Craft.{Craft}

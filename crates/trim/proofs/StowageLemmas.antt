@@ -7,9 +7,9 @@ use Rattle.std.proofs.lemmas.Option.{get_or_from_slice_get, slice_get_cases}
 use Rattle.std.proofs.lemmas.Slice.Zip.{get_or-zip, length-zip}
 use Rattle.std.proofs.Math.Nat.{mul-le-mul}
 use Rattle.std.specs.Prelude.{slice_get, ◌↔◌}
-use Rattle.desk_base.specs.Lists.{int_sum_by}
-use Rattle.desk_base.proofs.SignedSums.{int_sum_by-more}
-use Rattle.desk_base.proofs.Arrangements.{sum_by-map}
+use Rattle.base_words.specs.Lists.{int_sum_by}
+use Rattle.base_words.proofs.SignedSums.{int_sum_by-more}
+use Rattle.base_words.proofs.Arrangements.{sum_by-map}
 use Rattle.hold_parts.specs.declared.parts.Combined.{Combined}
 use Rattle.hold_parts.specs.declared.parts.Cumulative.{Cumulative}
 use Rattle.hold_parts.specs.declared.parts.Item.{Item}

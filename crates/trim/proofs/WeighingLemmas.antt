@@ -1,7 +1,7 @@
 -- the masses of a flight are numbers of 32 bits
 use Rattle.std.proofs.Common.{◌≡◌, ◌*◌, ◌≤◌, List, length, map, sum_by, ap, ◌∙◌, arith}
 use Rattle.std.proofs.lemmas.List.Sums.{sum_by-le}
-use Rattle.desk_base.proofs.Arrangements.{sum_by-map}
+use Rattle.base_words.proofs.Arrangements.{sum_by-map}
 use Rattle.mass_limits.specs.declared.figures.MassInput.{MassInput}
 use Rattle.mass_limits.specs.Masses.{CanBeWeighed}
 use Rattle.hold_parts.specs.declared.parts.Item.{Item}

@@ -1,6 +1,6 @@
 -- which rules a flight keeps, as its calls find out
 use Rattle.std.specs.Prelude.{ℕ, ◌≤◌, ◌↔◌, ℤ, ◌+ℤ◌, Bool, IsTrue, List, ◌++◌, map, zip}
-use Rattle.desk_base.specs.Lists.{int_sum_by}
+use Rattle.base_words.specs.Lists.{int_sum_by}
 use Rattle.envelope.specs.Outline.{IsInside}
 use Rattle.hold_parts.specs.declared.parts.Item.{Item}
 use Rattle.hold_limits.specs.BranchOrder.{ordered}

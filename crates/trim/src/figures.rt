@@ -3,7 +3,7 @@
 ghost use Rattle.std.specs.Prelude.{◌≡◌, IfOk};
 
 use crate::lists::{Items, LooseList};
-use desk_base::NoMemory;
+use base_words::NoMemory;
 use hold_limits::Name;
 use hold_parts::{Copyable, copied};
 use mass_units::{Kg, Ticks};

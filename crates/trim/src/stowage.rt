@@ -1,7 +1,7 @@
 //! All masses in the hold of a flight: its containers, placed, and its loose loads.
 
 ghost use Rattle.std.specs.Prelude.{◌≡◌, ◌<◌, ◌≤◌, ◌^◌, ◌++◌, map, zip, length, unsigned_abs, ◌↔◌, IsTrue};
-ghost use Rattle.desk_base.specs.Lists.{int_sum_by};
+ghost use Rattle.base_words.specs.Lists.{int_sum_by};
 ghost use Rattle.hold_limits.specs.BranchOrder.{order_of, ordered};
 ghost use Rattle.hold_limits.specs.Faults.{IsLawfulHold};
 ghost use Rattle.hold_limits.specs.Lateral.{IsWithinLateral};

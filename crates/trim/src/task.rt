@@ -15,7 +15,7 @@ use crate::loose::Stowed;
 use crate::weighing::weigh;
 use crate::window::window_of;
 use aircraft_file::Aircraft;
-use desk_base::NoMemory;
+use base_words::NoMemory;
 use hold_limits::{Hold, Item, Loose, Task};
 use hold_parts::copied;
 use mass_units::Kg;

@@ -4,7 +4,7 @@
 
 ghost use Rattle.std.specs.Prelude.{IsFalse};
 
-use desk_base::NoMemory;
+use base_words::NoMemory;
 use http_wire::{Wire, WireFault, answer};
 use load_io::{Joined, Link, StdSink, StdSource};
 

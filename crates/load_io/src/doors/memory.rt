@@ -6,7 +6,7 @@ ghost use Rattle.load_io.specs.Door.{queue_of};
 use crate::calls::CallLog;
 use crate::doors::queue::LinkQueue;
 use crate::{Door, Failed, MemoryLink};
-use desk_base::NoMemory;
+use base_words::NoMemory;
 use std::alloc::Global;
 use std::marker::Model;
 

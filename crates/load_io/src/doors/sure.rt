@@ -4,7 +4,7 @@ ghost use Rattle.load_io.specs.Door.{queue_of};
 
 use crate::doors::queue::LinkQueue;
 use crate::{Door, Failed, SureLink};
-use desk_base::NoMemory;
+use base_words::NoMemory;
 use std::alloc::Global;
 use std::marker::Model;
 

@@ -3,7 +3,7 @@ ghost use Rattle.std.specs.Prelude.{◌≡◌, ◌<◌, [], Some, IfOk};
 ghost use Rattle.load_io.specs.Calls.{no_calls};
 
 use crate::{Failed, Link, MemorySink, MemorySource, Sink, Source};
-use desk_base::NoMemory;
+use base_words::NoMemory;
 use std::alloc::Global;
 use std::marker::Model;
 

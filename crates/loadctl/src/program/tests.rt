@@ -2,7 +2,7 @@
 // text: a line for each request, with its method and target, its body, the status of its answer, and the answer's body.
 use super::*;
 use crate::examples::{MORNING, MORNING_ANSWERS, shelf, words};
-use desk_base::NoMemory;
+use base_words::NoMemory;
 use keeper::{Bytes, FailingKeeper, KeptRow, MemoryKeeper};
 use load_io::{MemorySink, MemorySource};
 use placer::Direct;

@@ -6,7 +6,7 @@ use crate::examples::{MORNING, MORNING_ANSWERS, shelf, words};
 use crate::execute::made_for;
 use crate::objects::Objects;
 use crate::program::run;
-use desk_base::NoMemory;
+use base_words::NoMemory;
 use keeper::MemoryKeeper;
 use load_io::{MemoryDoor, MemoryLink, MemorySink, SureSource};
 use placer::Direct;

@@ -1,7 +1,7 @@
 use Rattle.std.proofs.Common.{List, ℕ, [], sym, ◌∙◌, subst, arith}
 use Rattle.std.proofs.lemmas.Bool.{false≢true}
 use Rattle.std.proofs.lemmas.Option.{slice_get_within}
-use Rattle.desk_base.specs.Lists.{Extends}
+use Rattle.base_words.specs.Lists.{Extends}
 use Rattle.certificate.specs.Good.{IsBefore, IsUncut}
 use Rattle.cert_checker.specs.Steps.{AreFirst, claim_in, cuts_in}
 use Rattle.cert_checker.proofs.CutOrder.{uncut-empty, met-empty}

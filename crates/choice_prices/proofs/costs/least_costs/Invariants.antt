@@ -1,5 +1,5 @@
 use Rattle.std.proofs.Common.{◌≡◌, ◌≤◌, ◌*◌, unsigned_abs, map, take}
-use Rattle.desk_base.specs.Lists.{int_sum_by}
+use Rattle.base_words.specs.Lists.{int_sum_by}
 use Rattle.position_set.specs.Sets.{members}
 use Rattle.price_trees.specs.Prices.{candidates}
 use Rattle.choice_prices.specs.Tariffs.{least_by}

@@ -1,6 +1,6 @@
 use Rattle.std.proofs.Common.{ℤ, arith, pos, ◌*ℤ◌}
 use Rattle.std.proofs.lemmas.Int.{ints}
-use Rattle.desk_base.proofs.SignedSums.{int_sum_by-more}
+use Rattle.base_words.proofs.SignedSums.{int_sum_by-more}
 use Rattle.choice_prices.specs.Listing.{limited_resource}
 use Rattle.choice_prices.specs.Tariffs.{taken_by_mass}
 use Rattle.tree_certificate.specs.declared.parts.Price.{Price}

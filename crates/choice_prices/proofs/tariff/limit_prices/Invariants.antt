@@ -1,7 +1,7 @@
 use Rattle.std.proofs.Common.{◌≡◌, ◌≤◌, ◌*◌, unsigned_abs, take, pos, ◌*ℤ◌}
 use Rattle.choice_prices.specs.Listing.{limited_resource}
 use Rattle.choice_prices.specs.Tariffs.{taken_by_mass}
-use Rattle.desk_base.specs.Lists.{int_sum_by}
+use Rattle.base_words.specs.Lists.{int_sum_by}
 use Rattle.tree_certificate.specs.declared.parts.Price.{Price}
 use Rattle.choice_prices.proofs.tariff.limit_prices.Given as goal
 

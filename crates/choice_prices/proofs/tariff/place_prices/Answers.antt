@@ -1,6 +1,6 @@
 use Rattle.std.proofs.Common.{ℤ, arith, pos, ◌*ℤ◌, if◌then◌else◌, [], ◌∷◌}
 use Rattle.std.proofs.lemmas.Int.{ints}
-use Rattle.desk_base.proofs.SignedSums.{int_sum_by-more}
+use Rattle.base_words.proofs.SignedSums.{int_sum_by-more}
 use Rattle.hold_parts.specs.Limits.{is_listed}
 use Rattle.tree_certificate.specs.declared.parts.Price.{Price}
 use Rattle.choice_prices.proofs.tariff.place_prices.Goals as goal

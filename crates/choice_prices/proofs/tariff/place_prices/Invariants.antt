@@ -1,5 +1,5 @@
 use Rattle.std.proofs.Common.{◌≡◌, ◌≤◌, ◌*◌, unsigned_abs, take, pos, ◌*ℤ◌, if◌then◌else◌, [], ◌∷◌}
-use Rattle.desk_base.specs.Lists.{int_sum_by}
+use Rattle.base_words.specs.Lists.{int_sum_by}
 use Rattle.hold_parts.specs.Limits.{is_listed}
 use Rattle.tree_certificate.specs.declared.parts.Price.{Price}
 use Rattle.choice_prices.proofs.tariff.place_prices.Given as goal

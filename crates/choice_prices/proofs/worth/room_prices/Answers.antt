@@ -1,8 +1,8 @@
 use Rattle.std.proofs.Common.{ℤ, ap, ◌∙◌, arith, pos, ◌*ℤ◌}
 use Rattle.std.proofs.lemmas.Int.{ints}
 use Rattle.std.proofs.lemmas.List.{take_all}
-use Rattle.desk_base.specs.Lists.{int_sum_by}
-use Rattle.desk_base.proofs.SignedSums.{int_sum_by-more}
+use Rattle.base_words.specs.Lists.{int_sum_by}
+use Rattle.base_words.proofs.SignedSums.{int_sum_by-more}
 use Rattle.choice_prices.specs.Listing.{limited_resource}
 use Rattle.price_trees.specs.Prices.{stock}
 use Rattle.tree_certificate.specs.declared.parts.Price.{Price}

@@ -1,6 +1,6 @@
 use Rattle.std.proofs.Common.{◌≡◌, ◌≤◌, ◌*◌, unsigned_abs, take, pos, ◌*ℤ◌}
 use Rattle.choice_prices.specs.Listing.{limited_resource}
-use Rattle.desk_base.specs.Lists.{int_sum_by}
+use Rattle.base_words.specs.Lists.{int_sum_by}
 use Rattle.price_trees.specs.Prices.{Choice, stock}
 use Rattle.tree_certificate.specs.declared.parts.Price.{Price}
 use Rattle.choice_prices.proofs.worth.room_prices.Given as goal

@@ -1,6 +1,6 @@
 use Rattle.std.proofs.Common.{ℤ, arith, pos, ◌*ℤ◌, if◌then◌else◌}
 use Rattle.std.proofs.lemmas.Int.{ints}
-use Rattle.desk_base.proofs.SignedSums.{int_sum_by-more}
+use Rattle.base_words.proofs.SignedSums.{int_sum_by-more}
 use Rattle.choice_prices.specs.Listing.{clique_places}
 use Rattle.position_set.specs.Sets.{has}
 use Rattle.std.specs.List.{list_any}

@@ -1,6 +1,6 @@
 use Rattle.std.proofs.Common.{◌≡◌, ◌≤◌, ◌*◌, unsigned_abs, take, pos, ◌*ℤ◌, if◌then◌else◌}
 use Rattle.choice_prices.specs.Listing.{clique_places}
-use Rattle.desk_base.specs.Lists.{int_sum_by}
+use Rattle.base_words.specs.Lists.{int_sum_by}
 use Rattle.position_set.specs.Sets.{has}
 use Rattle.std.specs.List.{list_any}
 use Rattle.tree_certificate.specs.declared.parts.Price.{Price}

@@ -1,5 +1,5 @@
 use Rattle.std.proofs.Common.{◌≡◌, None}
-use Rattle.desk_base.specs.Lists.{first_below}
+use Rattle.base_words.specs.Lists.{first_below}
 use Rattle.hold_limits.specs.Faults.{is_wrong_exclude_at}
 use Rattle.hold_limits.proofs.hold_faults.first_wrong_exclude.Given as goal
 

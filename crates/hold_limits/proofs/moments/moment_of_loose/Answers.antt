@@ -1,6 +1,6 @@
 use Rattle.std.proofs.Common.{◌≡◌, ◌+◌, ◌+ℤ◌, take, arith}
 use Rattle.std.proofs.lemmas.Int.{ints}
-use Rattle.desk_base.specs.Lists.{int_sum_by}
+use Rattle.base_words.specs.Lists.{int_sum_by}
 use Rattle.hold_limits.specs.Arms.{arm_at, loose_by}
 use Rattle.hold_limits.proofs.MomentLemmas.{loose_by-bound, longest-most, loose-more}
 use Rattle.hold_limits.proofs.moments.moment_of_loose.Goals as goal

@@ -1,6 +1,6 @@
 use Rattle.std.proofs.Common.{◌≡◌, ◌+◌, ◌+ℤ◌, take, ap, ◌∙◌, refl, arith}
 use Rattle.std.proofs.lemmas.Int.{ints}
-use Rattle.desk_base.specs.Lists.{int_sum_by}
+use Rattle.base_words.specs.Lists.{int_sum_by}
 use Rattle.hold_limits.specs.Placement.{placed}
 use Rattle.hold_limits.specs.Arms.{arm_at, placed_by}
 use Rattle.hold_limits.proofs.MomentLemmas.{placed_by-bound, longest-most, placed-more, placed-all}

@@ -1,5 +1,5 @@
 use Rattle.std.proofs.Common.{◌≡◌, take}
-use Rattle.desk_base.specs.Lists.{int_sum_by}
+use Rattle.base_words.specs.Lists.{int_sum_by}
 use Rattle.hold_limits.specs.Placement.{placed}
 use Rattle.hold_limits.specs.Arms.{arm_at, placed_by}
 use Rattle.hold_limits.proofs.moments.moment_of_placed.Given as goal

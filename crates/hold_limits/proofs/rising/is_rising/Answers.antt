@@ -1,6 +1,6 @@
 use Rattle.std.proofs.Common.{◌<◌, ◌≤◌, length, arith, refl}
 use Rattle.std.proofs.lemmas.Bool.{false≢true}
-use Rattle.desk_base.proofs.PairLemmas.{pairs-more, pairs-all, pairs-whole}
+use Rattle.base_words.proofs.PairLemmas.{pairs-more, pairs-all, pairs-whole}
 use Rattle.hold_limits.specs.Placement.{Placed, placed}
 use Rattle.hold_limits.proofs.PlacedLemmas.{length-placed}
 use Rattle.hold_limits.proofs.TwinLemmas.{RisesTo, rises-at}

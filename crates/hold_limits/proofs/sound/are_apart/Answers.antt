@@ -1,6 +1,6 @@
 use Rattle.std.proofs.Common.{◌≢◌, refl}
 use Rattle.std.proofs.lemmas.Bool.{false≢true}
-use Rattle.desk_base.proofs.PairLemmas.{pairs-more, pairs-all, pairs-whole}
+use Rattle.base_words.proofs.PairLemmas.{pairs-more, pairs-all, pairs-whole}
 use Rattle.hold_limits.proofs.sound.are_apart.Goals as goal
 
 pub returns-then-not-differs_from_all : goal.returns-then-not-differs_from_all

@@ -1,7 +1,7 @@
 use Rattle.std.proofs.Common.{refl}
 use Rattle.std.proofs.lemmas.Bool.{false≢true}
 use Rattle.hold_limits.specs.Placement.{Exclude}
-use Rattle.desk_base.proofs.PairLemmas.{pairs-more, pairs-all, pairs-whole}
+use Rattle.base_words.proofs.PairLemmas.{pairs-more, pairs-all, pairs-whole}
 use Rattle.hold_limits.proofs.sound.are_compatible.Goals as goal
 
 pub returns-then-not-is_excluded_by_none : goal.returns-then-not-is_excluded_by_none

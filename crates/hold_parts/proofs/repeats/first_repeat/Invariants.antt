@@ -1,5 +1,5 @@
 use Rattle.std.proofs.Common.{◌≡◌, None}
-use Rattle.desk_base.specs.Lists.{first_below, repeats_at}
+use Rattle.base_words.specs.Lists.{first_below, repeats_at}
 use Rattle.hold_parts.proofs.repeats.first_repeat.Given as goal
 
 abbrev pub invariant-loop-place : goal.invariant-loop-place

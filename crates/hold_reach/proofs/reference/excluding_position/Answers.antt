@@ -1,6 +1,6 @@
 use Rattle.std.proofs.Common.{◌≡◌, ◌<◌, true, sym, ◌∙◌, length, arith, ◌&&◌}
 use Rattle.std.proofs.lemmas.Bool.{and_from}
-use Rattle.desk_base.proofs.ListLemmas.{first_below-some}
+use Rattle.base_words.proofs.ListLemmas.{first_below-some}
 use Rattle.hold_limits.specs.Enumeration.{exclude}
 use Rattle.hold_reach.specs.Rules.{is_used}
 use Rattle.hold_reach.proofs.reference.excluding_position.Goals as goal

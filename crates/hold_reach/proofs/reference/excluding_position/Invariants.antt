@@ -1,5 +1,5 @@
 use Rattle.std.proofs.Common.{◌≡◌, ◌&&◌, None}
-use Rattle.desk_base.specs.Lists.{first_below}
+use Rattle.base_words.specs.Lists.{first_below}
 use Rattle.hold_limits.specs.Enumeration.{exclude}
 use Rattle.hold_reach.specs.Rules.{is_used}
 use Rattle.hold_reach.proofs.reference.excluding_position.Given as goal

@@ -1,6 +1,6 @@
 use Rattle.std.proofs.Common.{◌≡◌, ◌+◌, ◌*◌, ◌≤◌, ◌+ℤ◌, take, unsigned_abs, arith, sym, ◌∙◌}
 use Rattle.std.proofs.lemmas.Int.{ints}
-use Rattle.desk_base.specs.Lists.{int_sum_by}
+use Rattle.base_words.specs.Lists.{int_sum_by}
 use Rattle.hold_limits.specs.Placement.{loose_moment}
 use Rattle.last_minute.proofs.CountLemmas.{sum-more}
 use Rattle.last_minute.proofs.loads.index_of_loads.Goals as goal

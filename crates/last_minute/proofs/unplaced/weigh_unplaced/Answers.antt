@@ -4,7 +4,7 @@ use Rattle.payload.specs.Load.{cabin_index}
 use Rattle.payload.specs.declared.figures.Averages.{Averages}
 use Rattle.payload.specs.declared.figures.Zone.{Zone}
 use Rattle.payload.specs.declared.figures.ZoneCount.{ZoneCount}
-use Rattle.desk_base.specs.Lists.{int_sum_by}
+use Rattle.base_words.specs.Lists.{int_sum_by}
 use Rattle.hold_limits.specs.Layout.{Layout}
 use Rattle.hold_limits.specs.Placement.{loose_moment}
 use Rattle.trim.specs.Loads.{load_told, loose_loads}

@@ -50,11 +50,11 @@ returns-in_err-lateral-clause-refused c =
 
 pub returns-clause-read : goal.returns-clause-read
 returns-clause-read c = record {
-  l1 = c.read_section.new.lines;
-  l2 = c.read_section-2.new.lines;
-  l3 = c.read_section-3.new.lines;
-  l4 = c.read_lateral.new.lines;
-  l5 = c.read_section-4.new.lines;
+  after_excludes = c.read_section.new.lines;
+  after_combined = c.read_section-2.new.lines;
+  after_cumulative = c.read_section-3.new.lines;
+  after_lateral = c.read_lateral.new.lines;
+  after_items = c.read_section-4.new.lines;
   excludes = c.in_ok-excludes.ensures;
   combined = c.in_ok-combined.ensures;
   cumulative = c.in_ok-cumulative.ensures;

@@ -4,7 +4,7 @@ use Rattle.hold_limits.specs.Layout.{Layout}
 use Rattle.hold_limits.specs.BranchOrder.{ordered}
 use Rattle.hold_limits.specs.Placement.{hold_index}
 use Rattle.mass_limits.specs.Masses.{masses_of}
-use Rattle.desk_base.specs.Lists.{int_sum_by}
+use Rattle.base_words.specs.Lists.{int_sum_by}
 use Rattle.trim.specs.declared.loose.Stowed.{Stowed}
 use Rattle.trim.specs.Loads.{offer}
 use Rattle.trim.specs.Stowage.{stowage, stowed_item, stowed_moment}

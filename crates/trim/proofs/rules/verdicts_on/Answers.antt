@@ -4,7 +4,7 @@ use Rattle.hold_limits.specs.Layout.{Layout}
 use Rattle.hold_limits.specs.BranchOrder.{ordered}
 use Rattle.mass_limits.specs.MassRule.{is_broken, rules}
 use Rattle.mass_limits.specs.declared.figures.MassRule.TheVariants as mass
-use Rattle.desk_base.specs.Lists.{int_sum_by}
+use Rattle.base_words.specs.Lists.{int_sum_by}
 use Rattle.trim.specs.Stowage.{stowed_item, stowed_moment}
 use Rattle.trim.specs.Verdicts.{stowed_in, hold_index_in}
 use Rattle.trim.proofs.RuleLemmas.{mass-kept}

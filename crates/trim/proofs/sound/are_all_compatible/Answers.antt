@@ -1,7 +1,7 @@
 use Rattle.std.proofs.Common.{refl, ◌≢◌}
 use Rattle.std.proofs.lemmas.Bool.{false≢true}
 use Rattle.hold_limits.specs.Placement.{Exclude}
-use Rattle.desk_base.proofs.PairLemmas.{pairs-more, pairs-all, pairs-whole}
+use Rattle.base_words.proofs.PairLemmas.{pairs-more, pairs-all, pairs-whole}
 use Rattle.trim.proofs.sound.are_all_compatible.Goals as goal
 
 pub returns-then-not-is_compatible_with_all : goal.returns-then-not-is_compatible_with_all

@@ -1,6 +1,6 @@
 use Rattle.std.proofs.Common.{◌≡◌, ◌+◌, ◌*◌, ◌≤◌, ◌+ℤ◌, take, unsigned_abs, arith, sym, ◌∙◌}
 use Rattle.std.proofs.lemmas.Int.{ints}
-use Rattle.desk_base.specs.Lists.{int_sum_by}
+use Rattle.base_words.specs.Lists.{int_sum_by}
 use Rattle.trim.specs.Stowage.{stowed_moment}
 use Rattle.trim.proofs.StowageLemmas.{moment-bound, moments-more}
 use Rattle.trim.proofs.stowage.hold_index_of.Goals as goal

@@ -1,6 +1,6 @@
 use Rattle.std.proofs.Common.{◌≡◌, ◌+◌, ◌*◌, ◌≤◌, ◌+ℤ◌, take, unsigned_abs, arith, sym, ap, ◌∙◌}
 use Rattle.std.proofs.lemmas.Int.{ints}
-use Rattle.desk_base.specs.Lists.{int_sum_by}
+use Rattle.base_words.specs.Lists.{int_sum_by}
 use Rattle.trim.specs.Stowage.{stowed_lateral}
 use Rattle.trim.proofs.StowageLemmas.{moments-more}
 use Rattle.trim.proofs.stowage.lateral_difference_of.Goals as goal

@@ -1,5 +1,5 @@
 use Rattle.std.proofs.Common.{◌≡◌, ◌*◌, ◌≤◌, take, unsigned_abs}
-use Rattle.desk_base.specs.Lists.{int_sum_by}
+use Rattle.base_words.specs.Lists.{int_sum_by}
 use Rattle.trim.specs.Stowage.{stowed_lateral}
 use Rattle.trim.proofs.stowage.lateral_difference_of.Given as goal
 
