@@ -2,10 +2,7 @@
 use Rattle.std.proofs.Common.{◌≡◌, ℕ, zero, suc, ◌+◌, ◌<◌, Bool, true, false, Some, None, refl, arith, add-one}
 use Rattle.std.proofs.Common.{⊎_elim}
 use Rattle.std.proofs.Math.Nat.{eq-or-lt_of_le}
-use Rattle.std.proofs.Common.{List, length, get_or, take}
-use Rattle.std.proofs.lemmas.Option.{slice_get_read}
-use Rattle.std.specs.List.{list_any, slice_get}
-use Rattle.base_words.specs.Lists.{first_below, repeats_at}
+use Rattle.base_words.specs.Lists.{first_below}
 
 -- none below n passes, and n does not: none below n + 1 passes
 pub first_below-none : (test : ℕ → Bool) (n : ℕ) → first_below test n ≡ None → test n ≡ false → first_below test (n + 1) ≡ None
@@ -21,9 +18,3 @@ first_below-some test n (suc m) below here less = ⊎_elim
 
 -- both, for the loops that look for a first place
 pub ruleset first_steps = (first_below-none, first_below-some)
-
--- the element at a place is the same as an earlier one exactly if it is so among those before
-pub repeats_at-is : {X : Type 0} (same : X → X → Bool) (xs : List X) (at : ℕ) (x : X) (b : Bool) → at < length xs → x ≡ get_or xs at x → b ≡ list_any (same x) (take at xs) → b ≡ repeats_at same xs at
-repeats_at-is same xs at x b within here is =
-    let there : slice_get xs at ≡ Some x = slice_get_read xs (length xs) at x refl within here in
-    rw there is

@@ -1,6 +1,6 @@
 -- the tests of the cuts, one cut more at a time
-use Rattle.std.proofs.Common.{refl, ◌≡◌, ◌⊎◌, ⊎_elim, ◌↔◌, ℕ, ◌+◌, ◌-◌, ◌<◌, ◌≤◌, List, [], ◌∷◌, ◌++◌, length, get_or, take, Option, Some, sym, ap, ◌∙◌, subst, arith, length-take}
-use Rattle.std.proofs.lemmas.List.{take_more, take_all, get_or-take, get_or-map, length-map}
+use Rattle.std.proofs.Common.{refl, ◌≡◌, ◌⊎◌, ⊎_elim, ◌↔◌, ℕ, ◌+◌, ◌-◌, ◌<◌, List, [], ◌∷◌, ◌++◌, length, get_or, take, Option, Some, sym, ap, ◌∙◌, subst, arith, length-take}
+use Rattle.std.proofs.lemmas.List.{take_more, get_or-take, get_or-map, length-map}
 use Rattle.std.proofs.lemmas.List.Elements.{All-push, All-nil}
 use Rattle.std.proofs.lemmas.List.Quantifiers.{all_pairs_push}
 use Rattle.std.proofs.lemmas.Option.{slice_get-get_or, get_or_from_slice_get}
@@ -69,9 +69,6 @@ CutsHold-next t claim cuts at cut within stands hold order can idle = subst (Cut
   where
     longer : take (at + 1) cuts ≡ take at cuts ++ cut ∷ []
     longer = take_more cuts at cut within ∙ ap (λ c. take at cuts ++ c ∷ []) (get_or_from_slice_get cuts at cut cut stands)
-
-pub CutsHold-all : (t : Problem) (claim : Option (List ℕ)) (cuts : List (List ℕ)) (n : ℕ) → length cuts ≤ n → CutsHold t claim (take n cuts) → CutsHold t claim cuts
-CutsHold-all t claim cuts n all hold = subst (CutsHold t claim) (take_all n cuts all) hold
 
 -- Where no prefix is sound ----------------------------------------------------------------------
 

@@ -6,21 +6,20 @@ use Rattle.std.proofs.lemmas.List.{take_all}
 use Rattle.std.proofs.lemmas.List.Elements.{All-nil, All-cons, All-head, All-tail, All-contains}
 use Rattle.std.proofs.lemmas.Option.{slice_get-get_or}
 use Rattle.std.specs.Prelude.{All, slice_get, IfSome, IsSomeAnd}
-use Rattle.std.specs.List.{Contains}
 use Rattle.std.specs.Cmp.Lexicographic.{slice_cmp}
 use Rattle.base_words.specs.Lists.{Extends}
 use Rattle.hold_parts.specs.declared.parts.Lateral.{Lateral}
 use Rattle.hold_limits.specs.Problem.{Problem}
-use Rattle.hold_limits.specs.Placement.{IsAtMost, IsAdmissible, key, key_cmp}
+use Rattle.hold_limits.specs.Placement.{IsAtMost, key, key_cmp}
 use Rattle.hold_limits.specs.Twins.{is_rising}
 use Rattle.hold_limits.specs.Enumeration.{is_sound, is_admissible}
 use Rattle.hold_limits.proofs.EnumerationLemmas.{int_le-Decides, is_sound-Decides, is_admissible-Decides}
 use Rattle.hold_limits.proofs.TwinLemmas.{is_rising-Decides}
-use Rattle.hold_reach.specs.Reach.{Meets, MeetsLateral, HaveCommonNumber, IsViable, bound, reach, lateral_reach}
+use Rattle.hold_reach.specs.Reach.{Meets, IsViable, bound, reach, lateral_reach}
 use Rattle.hold_reach.proofs.CommonNumber.{common-from, common-bounds}
-use Rattle.certificate.specs.Good.{IsBefore, IsUncut, IsIncomplete, AreInOrder, HoldsNothingBetter, IsNoBetter, IsGood}
+use Rattle.certificate.specs.Good.{IsUncut, IsIncomplete, AreInOrder, HoldsNothingBetter, IsNoBetter, IsGood}
 use Rattle.cert_checker.specs.FirstReason.{ClaimHolds, CutsHold, IsTested, IsInOrder, CanBeCut, CutFails, IsComplete, Pass, PrefixFails, IsFirstReason}
-use Rattle.cert_checker.specs.Steps.{Stops, AllPass}
+use Rattle.cert_checker.specs.Steps.{Stops}
 use Rattle.cert_checker.specs.declared.reject.Reject.{Reject}
 use Rattle.cert_checker.specs.declared.reject.Reject.TheVariants.{NotAPlacement, CutOrder, CutNotViable, CutWeak, Nearer, Exists, MoreExpanded}
 use Rattle.cert_checker.proofs.PathOrder.{Extends-or_not, cut-or_uncut}

@@ -1,20 +1,20 @@
 -- a certificate has at most one first reason against it
-use Rattle.std.proofs.Common.{refl, ◌≡◌, ◌≢◌, ◌⊎◌, inl, inr, ⊎_elim, ℕ, ◌+◌, ◌<◌, ◌≤◌, List, ◌∷◌, length, get_or, take, Option, Some, Ordering, Less, Equal, Greater, nat_cmp, sym, ap, ◌∙◌, subst, arith, true, false, length-take}
+use Rattle.std.proofs.Common.{refl, ◌≡◌, ◌≢◌, ◌⊎◌, inl, inr, ⊎_elim, ℕ, ◌<◌, List, ◌∷◌, get_or, take, Option, Some, Ordering, Less, Equal, Greater, nat_cmp, sym, ap, ◌∙◌, subst, arith, length-take}
 use Rattle.std.proofs.lemmas.Bool.{false≢true}
 use Rattle.std.proofs.lemmas.Cmp.{nat_list_cmp_total}
 use Rattle.std.proofs.lemmas.List.{get_or-take}
 use Rattle.std.proofs.lemmas.List.Elements.{All-cons, All-weaker}
 use Rattle.std.proofs.lemmas.List.Kept.{AllPairs-cons}
 use Rattle.std.proofs.lemmas.Option.{same_Some, slice_get-get_or, get_or_from_slice_get, slice_get_within}
-use Rattle.std.specs.Prelude.{All, AllPairs, slice_get, IsSome, IsNone}
+use Rattle.std.specs.Prelude.{All, slice_get, IsSome, IsNone}
 use Rattle.std.specs.Ordering.{ordering_reverse}
 use Rattle.std.specs.Cmp.Lexicographic.{slice_cmp}
 use Rattle.arrayvec.specs.ArrayVec.{ArrayVec}
 use Rattle.hold_limits.specs.Problem.{Problem}
 use Rattle.hold_limits.proofs.KeyOrder.{slice_cmp_equal}
 use Rattle.hold_reach.specs.Reach.{IsViable}
-use Rattle.certificate.specs.Good.{IsBefore, IsUncut, IsIncomplete, AreInOrder, HoldsNothingBetter, IsNoBetter, IsExpanded}
-use Rattle.cert_checker.specs.FirstReason.{ClaimHolds, CutsHold, IsTested, IsInOrder, CanBeCut, CutFails, IsComplete, Pass, IsReached, PrefixFails, IsFirstReason}
+use Rattle.certificate.specs.Good.{IsBefore, IsIncomplete, AreInOrder, HoldsNothingBetter, IsNoBetter, IsExpanded}
+use Rattle.cert_checker.specs.FirstReason.{CutsHold, IsTested, IsInOrder, CanBeCut, CutFails, IsComplete, IsReached, PrefixFails, IsFirstReason}
 use Rattle.cert_checker.specs.declared.reject.Reject.{Reject}
 use Rattle.cert_checker.specs.declared.reject.Reject.TheVariants.{NotAPlacement, CutOrder, CutNotViable, CutWeak, Nearer, Exists, MoreExpanded}
 use Rattle.cert_checker.proofs.PathOrder.{IsBefore-not_itself, IsBefore-trans}

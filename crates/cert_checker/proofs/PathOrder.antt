@@ -96,9 +96,6 @@ pub none-before_nil : (xs : List ℕ) → IsBefore xs [] → ⊥
 none-before_nil [] before = cc
 none-before_nil (x ∷ xs) before = cc
 
-nil-before : (q : ℕ) (xs : List ℕ) → IsBefore [] (q ∷ xs)
-nil-before q xs = refl
-
 pub IsBefore-not_itself : (xs : List ℕ) → IsBefore xs xs → ⊥
 IsBefore-not_itself xs before = let tied = tied_itself nat_list_cmp_total xs in cc
 

@@ -1,5 +1,5 @@
 -- the lines of a certificate after its first, part by part
-use Rattle.std.proofs.Common.{◌≡◌, ℕ, ◌++◌, ◌∷◌, List, [], length, map, refl, sym, ◌∙◌, arith, codes, lit<, lit≤}
+use Rattle.std.proofs.Common.{ℕ, ◌++◌, ◌∷◌, List, [], map, refl, sym, ◌∙◌, codes, lit<, lit≤}
 use Rattle.std.proofs.lemmas.List.Elements.{All-nil}
 use Rattle.hold_parts.specs.declared.parts.Position.{Position}
 use Rattle.text_lines.specs.declared.lines.Lines.{Lines as Point}

@@ -1,14 +1,13 @@
 -- lines that name the positions of a path
-use Rattle.std.proofs.Common.{◌≡◌, ◌≢◌, ℕ, ◌+◌, ◌<◌, ◌≤◌, Bool, true, false, eqb, ◌++◌, ◌∷◌, List, [], length, refl, sym, ◌∙◌, ap, subst, arith, All, ⊎_elim, Option, Some, None, IfSome, IfNone}
-use Rattle.std.proofs.lemmas.Bool.{ne_eqb, eqb-false, true≢false}
+use Rattle.std.proofs.Common.{◌≡◌, ◌≢◌, ℕ, ◌+◌, ◌<◌, ◌≤◌, Bool, true, false, eqb, ◌++◌, ◌∷◌, List, [], length, refl, sym, ◌∙◌, ap, subst, arith, All, Option, Some, None, IfSome, IfNone}
+use Rattle.std.proofs.lemmas.Bool.{eqb-false, true≢false}
 use Rattle.std.proofs.lemmas.Slice.Eq.{bytes_eq-Decides}
 use Rattle.std.specs.Prelude.{bytes_eq, not, slice_get}
 use Rattle.std.specs.Option.{option_map_or}
 use Rattle.std.proofs.lemmas.Option.{slice_get_within}
-use Rattle.std.proofs.lemmas.List.{append-nil, length-append}
-use Rattle.std.proofs.lemmas.List.Elements.{All-head, All-tail, All-cons, All-nil, All-same, All-weaker, All-push}
+use Rattle.std.proofs.lemmas.List.{length-append}
+use Rattle.std.proofs.lemmas.List.Elements.{All-same, All-push}
 use Rattle.arrayvec.specs.ArrayVec.{ArrayVec}
-use Rattle.hold_parts.specs.Spellings.{IsCapital, IsDigit, IsCapitalOrDigit, IsName}
 use Rattle.hold_parts.specs.declared.parts.Position.{Position}
 use Rattle.hold_limits.specs.Layout.{name_at}
 use Rattle.text_lines.specs.Cuts.{Avoids, IsCutAt}
@@ -17,8 +16,7 @@ use Rattle.text_lines.specs.Names.{IsNamed}
 use Rattle.text_lines.proofs.CutLemmas.{cut_once}
 use Rattle.text_lines.proofs.WordLemmas.{avoids-append}
 pub use Rattle.text_lines.proofs.NameRuns.{AreClear, AreNames, clear_names, names_are_read, names_begin, names_avoid, line_of-names as path_line-is}
-use Rattle.text_lines.proofs.NameLemmas.{name_at-avoids, named_once}
-use Rattle.text_lines.proofs.RunLemmas.{AreRead, run_text-begins, run_text-push, run_again, no_more, run_once}
+use Rattle.text_lines.proofs.RunLemmas.{run_text-push, run_again, no_more, run_once}
 use Rattle.certificate.specs.CertificateText.{path_line, IsSpelledPath}
 
 -- ---- a line of a word and names

@@ -1,5 +1,5 @@
 -- a text has one answer at most
-use Rattle.std.proofs.Common.{◌≡◌, ◌≢◌, ℕ, List, refl}
+use Rattle.std.proofs.Common.{◌≡◌, ℕ, List, refl}
 use Rattle.hold_parts.specs.declared.parts.Position.{Position}
 use Rattle.text_lines.specs.Cuts.{Avoids}
 use Rattle.text_lines.proofs.WordLemmas.{plain_word}

@@ -1,13 +1,10 @@
 -- texts that grow by one entry after another
-use Rattle.std.proofs.Common.{◌≡◌, ◌≢◌, ℕ, ◌<◌, ◌≤◌, List, [], ◌∷◌, ◌++◌, length, map, take, get_or, Some, IfSome, refl, ap, sym, ◌∙◌, arith}
-use Rattle.std.proofs.lemmas.List.{append_assoc, get_or-take, length-take}
+use Rattle.std.proofs.Common.{◌≡◌, ◌≢◌, ℕ, ◌<◌, ◌≤◌, List, [], ◌∷◌, ◌++◌, length, map, IfSome, refl, ap, sym, ◌∙◌}
+use Rattle.std.proofs.lemmas.List.{append_assoc}
 use Rattle.std.proofs.lemmas.List.Elements.{All-weaker, All-head, All-tail, All-nil, All-cons}
-use Rattle.std.proofs.lemmas.Option.{slice_get-get_or}
-use Rattle.std.specs.Option.{option_map_or}
-use Rattle.std.specs.Prelude.{All, AllPairs, slice_get, codes}
+use Rattle.std.specs.Prelude.{All, AllPairs, codes}
 use Rattle.arrayvec.specs.ArrayVec.{ArrayVec}
 use Rattle.hold_parts.specs.declared.parts.Position.{Position}
-use Rattle.hold_limits.specs.Layout.{name_at}
 use Rattle.text_lines.specs.Lines.{text_of}
 use Rattle.text_lines.specs.Names.{IsNamed}
 use Rattle.text_lines.proofs.SectionLemmas.{text_of-append}

@@ -24,12 +24,6 @@ and-parts : (a b : Bool) → (a && b) ≡ true → (a ≡ true) × (b ≡ true)
 and-parts true b both = (refl, both)
 and-parts false b both = absurd (false≢true both)
 
-pub all-passed : (test : ℕ → Bool) (q : ℕ) (rest all : List ℕ) → list_all test (q ∷ rest) ≡ list_all test all → test q ≡ true → list_all test rest ≡ list_all test all
-all-passed test q rest all same passes = rw passes at same
-
-pub all-failed : (test : ℕ → Bool) (q : ℕ) (rest all : List ℕ) → list_all test (q ∷ rest) ≡ list_all test all → test q ≡ false → false ≡ list_all test all
-all-failed test q rest all same fails = rw fails at same
-
 all-listed : (test : ℕ → Bool) (places : List ℕ) (a : ℕ) → list_all test places ≡ true → is_listed places a ≡ true → test a ≡ true
 all-listed test [] a all listed = absurd (false≢true listed)
 all-listed test (p ∷ places) a all listed =

@@ -1,5 +1,5 @@
 -- the loops over the positions of a set and over the sets of a choice
-use Rattle.std.proofs.Common.{◌≡◌, ⊎_elim, ℕ, ◌+◌, ◌<◌, ℤ, ◌+ℤ◌, Bool, true, false, ◌&&◌, ◌||◌, ◌==◌, List, [], ◌∷◌, ◌++◌, map, fold, take, length, get_or, Some, refl, ap, ap₂, sym, ◌∙◌, subst, arith, append_assoc, append-nil, min}
+use Rattle.std.proofs.Common.{◌≡◌, ⊎_elim, ℕ, ◌+◌, ◌<◌, ℤ, ◌+ℤ◌, Bool, true, false, ◌&&◌, ◌||◌, ◌==◌, List, [], ◌∷◌, ◌++◌, map, take, length, get_or, Some, refl, ap, ap₂, sym, ◌∙◌, subst, arith, append_assoc, append-nil, min}
 use Rattle.std.proofs.lemmas.Bool.{cases_Bool, false≢true}
 use Rattle.std.proofs.lemmas.Bool.Decides.{nat_tests, eqb_tells}
 use Rattle.std.proofs.lemmas.List.{map_more, get_or-map, length-map, map-append}
@@ -7,7 +7,6 @@ use Rattle.std.proofs.lemmas.List.Elements.{filter-append}
 use Rattle.std.proofs.lemmas.Option.{get_or_from_slice_get}
 use Rattle.std.proofs.lemmas.Slice.Zip.{get_or-zip, length-zip}
 use Rattle.std.specs.Prelude.{slice_get}
-use Rattle.std.specs.Int.{int_min}
 use Rattle.std.specs.List.{filter}
 use Rattle.base_words.specs.Lists.{int_sum_by}
 use Rattle.base_words.proofs.SignedSums.{int_sum_by-more}
@@ -25,10 +24,6 @@ use Rattle.choice_prices.specs.declared.tariff.Tariff.{Tariff}
 use Rattle.choice_prices.specs.Tariffs.{cost_by, least_by, cheap_by}
 
 -- The least of a set ----------------------------------------------------------------------------
-
--- one number more is looked at
-pub least-more : (f : ℕ → ℤ) (least_so_far x : ℤ) (q : ℕ) (rest after : List ℕ) (all : ℤ) → fold int_min least_so_far (map f rest) ≡ all → rest ≡ q ∷ after → x ≡ f q → fold int_min (int_min least_so_far x) (map f after) ≡ all
-least-more f so_far x q rest after all is split cost = rw cost (rw split at is)
 
 -- The cheap ones of a set -----------------------------------------------------------------------
 

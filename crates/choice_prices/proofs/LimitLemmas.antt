@@ -1,5 +1,5 @@
 -- the limits of a hold by their numbers, and what the loose loads leave under them
-use Rattle.std.proofs.Common.{◌≡◌, ℕ, pos, ◌-ℤ◌, false, List, [], ◌∷◌, Some, None, refl, arith}
+use Rattle.std.proofs.Common.{◌≡◌, ℕ, pos, ◌-ℤ◌, false, List, [], ◌∷◌, None, refl, arith}
 use Rattle.std.proofs.lemmas.Int.{ints}
 use Rattle.std.specs.Prelude.{slice_get}
 use Rattle.std.specs.List.{list_any}
@@ -42,6 +42,3 @@ none-met (set ∷ choice) = rw (none-in set) (none-met choice)
 -- there is nothing of what no limit is of
 pub room-none : (t : Problem) (choice : Choice) (n : ℕ) → slice_get (limited_resources t.hold) n ≡ None → pos 0 ≡ stock t choice (limited_resource t.hold n)
 room-none t choice n none = rw (none, none-met choice) refl
-
-pub room-some : (t : Problem) (choice : Choice) (n : ℕ) (limit : PricedLimit) → slice_get (limited_resources t.hold) n ≡ Some (resource_of limit) → stock t choice (resource_of limit) ≡ stock t choice (limited_resource t.hold n)
-room-some t choice n limit some = rw some refl

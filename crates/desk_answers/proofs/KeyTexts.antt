@@ -1,5 +1,5 @@
 -- the key of a flight is text
-use Rattle.std.proofs.Common.{◌≡◌, ◌∙◌, ℕ, ◌-◌, ◌<◌, ◌≤◌, List, [], ◌∷◌, ◌++◌, length, take, drop, sym, subst, true, ◌&&◌, arith, codes, inl, inr}
+use Rattle.std.proofs.Common.{◌≡◌, ℕ, ◌-◌, List, [], ◌∷◌, length, take, drop, sym, subst, true, ◌&&◌, arith, codes, inl, inr}
 use Rattle.std.specs.Prelude.{All, IsAscii, IsUtf8, bytes_eq, nat_le}
 use Rattle.std.proofs.lemmas.Bool.{and_parts, cases_lt}
 use Rattle.std.proofs.lemmas.List.{take-append-drop, get_or_past}

@@ -2,7 +2,7 @@
 use Rattle.std.proofs.Common.{◌≡◌, ◌≢◌, ℕ, ◌+◌, ◌<◌, ◌≤◌, true, false, List, [], ◌∷◌, ◌++◌, length, take, drop, get_or, refl, sym, ◌∙◌, ap, subst, arith, Option, Some, None, Ok, Err, IfSome, String, Global}
 use Rattle.std.specs.Prelude.{string_bytes, bytes_eq}
 use Rattle.std.specs.List.{AllZip}
-use Rattle.std.proofs.lemmas.List.{take_more, drop_more, map-append, length-map, length-take-le, take-append-drop, take_all}
+use Rattle.std.proofs.lemmas.List.{take_more, drop_more, map-append, length-map, length-take-le, take-append-drop}
 use Rattle.std.proofs.lemmas.List.Folds.{list_any_at}
 use Rattle.std.proofs.lemmas.List.Quantifiers.{all_pairs_push}
 use Rattle.std.proofs.lemmas.Slice.Eq.{bytes_eq-Decides}
@@ -14,7 +14,7 @@ use Rattle.desk_fleet.specs.declared.fault.FileReason.TheVariants.{Long, Fault, 
 use Rattle.desk_fleet.specs.declared.fault.FleetFault.{FleetFault}
 use Rattle.desk_fleet.specs.declared.fault.FleetFault.TheVariants.{Refused, Unread, NoMemory}
 use Rattle.desk_fleet.specs.declared.fault.RefusedFile.{RefusedFile}
-use Rattle.desk_fleet.specs.Fleet.{longest_file, names_of, CannotJoin, too_long, no_aircraft, taken, IfFault, IfRefused, IsShortFile, IsFileOf, IsFleet, IsRefused, is_taken}
+use Rattle.desk_fleet.specs.Fleet.{longest_file, names_of, CannotJoin, too_long, no_aircraft, taken, IfFault, IfRefused, IsShortFile, IsFileOf, IsRefused, is_taken}
 
 -- One file --------------------------------------------------------------------------------------
 
@@ -94,14 +94,6 @@ grown exposed names at d fleet craft within far one free = record {
   each = subst (λ before. IfSome exposed (λ files. AllZip (IsFileOf files) before (fleet ++ craft ∷ []))) (sym (names-more names at d within))
       (each-push exposed (names_of (take at names)) fleet (string_bytes (get_or names at d)) craft far.each one);
   apart = free-apart fleet craft free far.apart;
-}
-
-pub whole-fleet : (exposed : Option Files) (names : List (String Global)) (at : ℕ) (fleet : List Craft) → length names ≤ at
-    → IsSoFar exposed (names_of (take at names)) fleet → IfSome exposed (λ files. IsFleet files (names_of names) fleet)
-whole-fleet None names at fleet past far = tt
-whole-fleet (Some files) names at fleet past far = record {
-  each = subst (λ before. AllZip (IsFileOf files) (names_of before) fleet) (take_all at names past) far.each;
-  apart = far.apart;
 }
 
 split-names : (names : List (String Global)) (at : ℕ) (d : String Global) → at < length names

@@ -7,7 +7,6 @@ use Rattle.load_io.specs.Sink.{Appends}
 use Rattle.load_io.proofs.SinkLemmas.{Appends-append}
 use Rattle.flight_history.specs.declared.entry.Entry.{Entry}
 use Rattle.http_wire.specs.Connection as wire
-use Rattle.http_wire.specs.Connection.{Ending}
 use Rattle.http_wire.specs.Hearing.{to_come}
 use Rattle.http_wire.specs.declared.refusals.Refusal.{Refusal}
 use Rattle.desk_service.specs.Turns.{Setting}

@@ -57,19 +57,6 @@ lasting-beyond : (capacity : ℕ) (o : Option ℕ) (t : ℕ) → lasting_ticket 
 lasting-beyond capacity None t e = absurd (let none : None ≡ Some t = e in cc)
 lasting-beyond capacity (Some u) t e = kept-beyond capacity u t (nat_le capacity u) refl e
 
--- and a ticket that is not below the capacity is kept
-pub lasting-full : (capacity t : ℕ) → capacity ≤ t → lasting_ticket capacity (Some t) ≡ Some t
-lasting-full capacity t h = let beyond : nat_le capacity t ≡ true = grind (arith, nat_tests) in rw beyond refl
-
--- one that is below is not
-pub lasting-served : (capacity t : ℕ) → t < capacity → lasting_ticket capacity (Some t) ≡ None
-lasting-served capacity t h = let below : nat_le capacity t ≡ false = grind (arith, nat_tests) in rw below refl
-
--- so a desk that is not full has none in hand
-pub lasting-free : (capacity : ℕ) (o : Option ℕ) → ((t : ℕ) → o ≡ Some t → t < capacity) → lasting_ticket capacity o ≡ None
-lasting-free capacity None free = refl
-lasting-free capacity (Some t) free = lasting-served capacity t (free t refl)
-
 -- the greatest of the numbers of the elements: none is greater, and where one reaches a bound of all it is the bound
 module _ {A : Type 0} (of : A → ℕ) where
   greatest-each : (xs : List A) (i : ℕ) (x : A) → slice_get xs i ≡ Some x → of x ≤ greatest of xs

@@ -21,7 +21,7 @@ use Rattle.desk_service.specs.Turns.{Setting, setting_of, placed}
 use Rattle.desk_service.proofs.Places.{placed_others}
 use Rattle.desk_service.proofs.ServiceLaws.{stays_service}
 use Rattle.desk_serve.specs.Doors.{Connection, all_entries, all_exchanges, keeper_failures, Attended, IsServedDoor, AreServedDoors, EndAs}
-use Rattle.desk_serve.specs.Bays.{OfficeDesk, desk_setting, ending_of, Worked, AllWorked}
+use Rattle.desk_serve.specs.Bays.{OfficeDesk, desk_setting, ending_of, AllWorked}
 use Rattle.desk_serve.specs.Service.{IsOneHistory}
 use Rattle.desk_serve.specs.declared.ending.DoorsEnd.{DoorsEnd}
 use Rattle.desk_serve.proofs.Collecting.{collected}

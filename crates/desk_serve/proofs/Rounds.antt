@@ -1,7 +1,6 @@
 -- the links of a door, one after another
-use Rattle.std.proofs.Common.{◌≡◌, ◌+◌, ◌-◌, ◌⊎◌, ℕ, List, [], ◌∷◌, ◌++◌, min, map, Option, None, Some, Bool, true, false, refl, sym, ap, ◌∙◌, append-nil, append_assoc, subst, inl, inr}
-use Rattle.std.specs.List.{All, flat_map}
-use Rattle.std.proofs.lemmas.Bool.{false≢true}
+use Rattle.std.proofs.Common.{◌≡◌, ◌+◌, ◌-◌, ◌⊎◌, ℕ, List, [], ◌∷◌, ◌++◌, map, Option, None, Some, Bool, true, false, refl, sym, ap, ◌∙◌, append-nil, append_assoc, subst, inl, inr}
+use Rattle.std.specs.List.{All}
 use Rattle.std.proofs.lemmas.List.{map-append}
 use Rattle.std.proofs.lemmas.Grind.{flat_map-append}
 use Rattle.std.proofs.lemmas.List.Elements.{All-weaker, All-push, All-nil, All-append}
@@ -17,7 +16,7 @@ use Rattle.desk_service.proofs.Serving.{exchange_on, lacking_on}
 use Rattle.desk_http.specs.Served.{Connected}
 use Rattle.desk_http.specs.declared.ending.ConnEnd.{ConnEnd}
 use Rattle.desk_serve.specs.Links.{BringsAll, HandsAllBack}
-use Rattle.desk_serve.specs.Doors.{Connection, all_entries, all_exchanges, Handles, IsServedLink, AreServed, Attended}
+use Rattle.desk_serve.specs.Doors.{Connection, all_entries, all_exchanges, IsServedLink, AreServed, Attended}
 
 -- Links --------------------------------------------------------------------------------------------
 
@@ -197,13 +196,3 @@ module _ {D L : Type 0} (coming_of handed_of : D → Option (List L)) (faults_of
         failed = failed;
       };
     }
-
-    -- the door was closed
-    pub round_closed : Round full desk first seen a b → coming_of c ≡ coming_of b → handed_of c ≡ handed_of b → NoneComes (coming_of b)
-        → Attended coming_of handed_of faults_of input_of output_of reads_of writes_of s full desk first seen a c true
-    round_closed r same handed none = attended true r same handed (λ _. subst NoneComes (sym same) none) (λ e. absurd (false≢true (sym e)))
-
-    -- the door failed
-    pub round_failed : Round full desk first seen a b → coming_of c ≡ coming_of b → handed_of c ≡ handed_of b → Rose (faults_of b) (faults_of c)
-        → Attended coming_of handed_of faults_of input_of output_of reads_of writes_of s full desk first seen a c false
-    round_failed r same handed fails = attended false r same handed (λ e. absurd (false≢true e)) (λ _. subst (λ (n : ℕ). Rose n (faults_of c)) r.faults fails)

@@ -1,5 +1,5 @@
 -- the answers 503 at all doors are no more than the entries that were not kept
-use Rattle.std.proofs.Common.{◌≡◌, ◌+◌, ◌≤◌, ◌==◌, ℕ, suc, Bool, true, false, cond, nat_le, List, [], ◌∷◌, ◌++◌, length, Option, Some, refl, sym, ap, ◌∙◌, arith, subst}
+use Rattle.std.proofs.Common.{◌≡◌, ◌+◌, ◌≤◌, ◌==◌, ℕ, suc, Bool, true, false, cond, nat_le, List, [], ◌∷◌, ◌++◌, Option, Some, refl, sym, ap, ◌∙◌, arith, subst}
 use Rattle.std.specs.List.{count_by, sum_by, slice_get}
 use Rattle.std.proofs.lemmas.Bool.Decides.{nat_tests}
 use Rattle.std.proofs.lemmas.List.{map-append}
@@ -13,7 +13,6 @@ use Rattle.desk_service.specs.AloneLaws.{failures-append}
 use Rattle.desk_service.specs.Exchanges.{Exchange}
 use Rattle.desk_service.specs.Laws.{has_status, unplaced}
 use Rattle.desk_service.specs.Places.{placed_if, placed_from}
-use Rattle.desk_service.specs.Service.{entries_of}
 use Rattle.desk_service.specs.Turns.{Setting, Placed, placed}
 use Rattle.desk_service.proofs.ServiceLaws.{fails_with_the_keeper}
 use Rattle.desk_serve.specs.Doors.{Connection, all_entries, all_exchanges, keeper_failures, IsServedLink, AreServed, AreServedDoors}

@@ -23,7 +23,7 @@ use Rattle.editions.specs.declared.answers.Answer.TheVariants.{Refused, Told, Ch
 use Rattle.editions.specs.Acts.{key_asked, IsActWith}
 use Rattle.editions.specs.Answers.{IsVerdictWith, IsAnswerWith, IsAnswer, KeepsKey, MakesSound, IsLawfulAt}
 use Rattle.editions.specs.declared.flights.Flight.{Flight}
-use Rattle.editions.specs.Sound.{IsReady, IsSound, IsTaskAnswer, IsKeptFlight}
+use Rattle.editions.specs.Sound.{IsReady, IsSound, IsKeptFlight}
 use Rattle.editions.proofs.ReadyLemmas.{step-ready, ready-new}
 
 -- with the aircraft of the flight
@@ -121,11 +121,6 @@ pub ready-as : (fleet : List Craft) (flight : Flight) (a : Craft) → IsKeptFlig
 ready-as fleet flight a kept found =
     let same : kept.sound.aircraft ≡ a = cc (kept.sound.found, found) in
     subst (λ (b : Craft). IsReady b flight.state) same kept.sound.ready
-
-pub task-as : (fleet : List Craft) (flight : Flight) (a : Craft) → IsKeptFlight fleet flight → aircraft_of fleet flight.state.leg ≡ Some a → IsTaskAnswer a flight.state flight.task
-task-as fleet flight a kept found =
-    let same : kept.sound.aircraft ≡ a = cc (kept.sound.found, found) in
-    subst (λ (b : Craft). IsTaskAnswer b flight.state flight.task) same kept.task
 
 -- its aircraft is in the fleet
 pub found-there : (fleet : List Craft) (s : FlightState) → IsSound fleet s → None ≡ aircraft_of fleet s.leg → ⊥

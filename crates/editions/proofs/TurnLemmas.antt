@@ -18,7 +18,7 @@ use Rattle.flight_history.specs.Standing.{standing}
 use Rattle.flight_history.specs.Step.{after}
 use Rattle.flight_history.specs.Verdict.{IsVerdict, commits}
 use Rattle.flight_history.specs.History.{Judged, is_accepted, is_of, flight_at, standing_of, is_opening, opens_flight, flight_count, is_full, IsJudged, AreJudgedAfter}
-use Rattle.flight_history.specs.Replies.{row_bytes, IsReplyBy, IsReply}
+use Rattle.flight_history.specs.Replies.{row_bytes, IsReply}
 use Rattle.flight_history.specs.Replies as replies
 use Rattle.flight_history.specs.KeptRows.{AreKept, kept_at}
 use Rattle.flight_history.proofs.LastOneLemmas.{by_test}

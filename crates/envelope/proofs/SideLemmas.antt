@@ -4,7 +4,7 @@ use Rattle.std.specs.Option.{option_map_or}
 use Rattle.std.proofs.lemmas.Bool.{cases_lt}
 use Rattle.mass_units.specs.declared.Kg.{Kg}
 use Rattle.std.proofs.lemmas.List.{get_or_append_left, get_or_push, length_push, take_more}
-use Rattle.std.proofs.lemmas.List.Elements.{All-nil, All-push, All-weaker}
+use Rattle.std.proofs.lemmas.List.Elements.{All-push, All-weaker}
 use Rattle.std.proofs.lemmas.List.Quantifiers.{Any-push}
 use Rattle.mass_units.specs.declared.Ticks.{Ticks}
 use Rattle.envelope.specs.declared.corner.Corner.{Corner}
@@ -29,9 +29,6 @@ Any-all P Q xs found every = (found.1, found.4, subst Q found.3 (every found.0 f
 pub record IsBound (R : ℤ → ℤ → Type 0) (S : Line → Type 0) (P : Line → ℤ → Type 0) (seen : List Line) (best : Option Ticks) : Type 0 where
   pub every : (z : ℤ) → All (λ e. S e → P e z) seen ↔ IfSome best (λ t. R t.0 z)
   pub spanned : MatchOption best (All (λ e. ¬ (S e)) seen) (λ _. Any S seen)
-
-pub IsBound-nil : (R : ℤ → ℤ → Type 0) (S : Line → Type 0) (P : Line → ℤ → Type 0) → IsBound R S P [] None
-IsBound-nil R S P = record { every = λ z. (λ _. tt, λ _. All-nil (λ e. S e → P e z)); spanned = All-nil (λ e. ¬ (S e)) }
 
 spanned-more : (S : Line → Type 0) (seen : List Line) (e : Line) (best : Option Ticks) → ¬ (S e) → MatchOption best (All (λ e. ¬ (S e)) seen) (λ _. Any S seen) → MatchOption best (All (λ e. ¬ (S e)) (seen ++ e ∷ [])) (λ _. Any S (seen ++ e ∷ []))
 spanned-more S seen e None none h = All-push (λ e. ¬ (S e)) seen e h none

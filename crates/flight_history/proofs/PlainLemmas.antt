@@ -1,6 +1,6 @@
 -- the entries of a plain pass over accepted acts, one entry on
 use Rattle.std.proofs.Common.{refl, ◌≡◌, ℕ, ◌+◌, ◌<◌, ◌≤◌, Bool, true, false, ◌&&◌, List, [], ◌∷◌, ◌++◌, Option, None, Some, cond, arith, ◌∙◌, sym, ap, subst, length, take, drop, get_or, unwrap_or, append_assoc}
-use Rattle.std.specs.Prelude.{count_by, option_map}
+use Rattle.std.specs.Prelude.{option_map}
 use Rattle.std.specs.List.{list_any}
 use Rattle.std.specs.Option.{option_or}
 use Rattle.std.proofs.lemmas.List.{map-append, take_more, take_all, drop_all, length-append, length-take-le, take-append-le, drop-append-le}
@@ -11,7 +11,7 @@ use Rattle.flight_history.specs.declared.entry.Entry.{Entry}
 use Rattle.flight_history.specs.LastOnes.{last_told, since, up_to}
 use Rattle.flight_history.specs.Plain.{acts_in, IsLastFold}
 use Rattle.flight_history.specs.Standing.{folds_lates, late_by, is_release, is_planned, stage_after, lates_in, releases_among}
-use Rattle.flight_history.proofs.LastOneLemmas.{last_told-push, list_any-push, since-push, up_to-push, fold-push}
+use Rattle.flight_history.proofs.LastOneLemmas.{last_told-push, list_any-push, since-push, up_to-push}
 use Rattle.flight_history.proofs.StandingLemmas.{lates_in-push, releases_among-push}
 
 -- the acts, one entry on
@@ -22,17 +22,6 @@ acts-more entries i entry within is =
 
 pub acts-all : (entries : List Entry) (i : ℕ) → length entries ≤ i → acts_in (take i entries) ≡ acts_in entries
 acts-all entries i past = ap acts_in (take_all i entries past)
-
--- what is counted
-pub count-more : (p : Act → Bool) (entries : List Entry) (i : ℕ) (entry : Entry) (n : ℕ) → i < length entries → entry ≡ get_or entries i entry → n ≡ count_by p (acts_in (take i entries))
-    → cond (p entry.act) (n + 1) n ≡ count_by p (acts_in (take (i + 1) entries))
-count-more p entries i entry n within is so_far =
-    sym (ap (count_by p) (acts-more entries i entry within is) ∙ fold-push (λ n (x : Act). n + cond (p x) 1 0) 0 (acts_in (take i entries)) entry.act
-    ∙ plus_cond (count_by p (acts_in (take i entries))) (p entry.act) ∙ ap (λ (k : ℕ). cond (p entry.act) (k + 1) k) (sym so_far))
-  where
-    plus_cond : (n : ℕ) (b : Bool) → n + cond b 1 0 ≡ cond b (n + 1) n
-    plus_cond n true = refl
-    plus_cond n false = omega arith
 
 unwrap-both : {B : Type 0} (a b : Option B) (first : B) → unwrap_or a (unwrap_or b first) ≡ unwrap_or (option_or a b) first
 unwrap-both None b first = refl

@@ -1,5 +1,5 @@
 -- the line of a late change is read in one way only, and contains no end of a line
-use Rattle.std.proofs.Common.{◌≡◌, ◌≢◌, ℕ, ◌<◌, ◌≤◌, ℤ, unsigned_abs, w16, w32, to_z, of_z, Bool, true, false, eqb, ◌∷◌, List, [], refl, sym, ◌∙◌, ap, arith, All, codes, lit<, subst}
+use Rattle.std.proofs.Common.{◌≡◌, ◌≢◌, ℕ, ◌<◌, ◌≤◌, ℤ, unsigned_abs, w16, w32, to_z, of_z, Bool, false, ◌∷◌, List, [], refl, sym, ◌∙◌, ap, arith, codes, lit<, subst}
 use Rattle.std.specs.Prelude.{bytes_eq}
 use Rattle.std.proofs.lemmas.Bool.{true≢false}
 use Rattle.std.proofs.lemmas.List.Elements.{All-from_recursion}

@@ -1,12 +1,12 @@
 -- the texts of a leg contain no space and no end of a line
-use Rattle.std.proofs.Common.{◌≡◌, ⊎_elim, ℕ, ◌-◌, ◌<◌, ◌≤◌, Bool, true, false, ◌&&◌, ◌||◌, eqb, ◌∷◌, ◌++◌, List, [], length, get_or, sym, ◌∙◌, ap, subst, arith, All, codes, lit<, take, drop, refl, Option, Some, None}
-use Rattle.std.specs.Prelude.{nat_le, ◌==◌, if◌then◌else◌, slice_get}
+use Rattle.std.proofs.Common.{◌≡◌, ⊎_elim, ℕ, ◌-◌, ◌<◌, ◌≤◌, Bool, true, false, ◌&&◌, eqb, ◌∷◌, ◌++◌, List, [], length, get_or, sym, ◌∙◌, ap, subst, arith, codes, lit<, take, drop, refl, Some, None}
+use Rattle.std.specs.Prelude.{nat_le, ◌==◌, slice_get}
 use Rattle.std.specs.List.{list_all}
 use Rattle.std.specs.Option.{option_map_or}
 use Rattle.std.specs.Str.Parse.{digits_value}
 use Rattle.std.proofs.lemmas.Bool.{and_parts, or_cases, cases_Bool, cases_lt, cond-true, cond-false, leb-true, ne_eqb}
 use Rattle.std.proofs.lemmas.List.{get_or-take, length-take-le, take-append-drop}
-use Rattle.std.proofs.lemmas.List.Elements.{All-nil, All-cons, All-append, All-same, All-get_or, All-from_get_or, All-from_recursion}
+use Rattle.std.proofs.lemmas.List.Elements.{All-nil, All-cons, All-append, All-same, All-from_get_or, All-from_recursion}
 use Rattle.std.proofs.lemmas.Option.{slice_get-get_or, none-some, cond_some}
 use Rattle.aircraft_file.specs.Spellings.{is_registration, spelled}
 use Rattle.flight_state.specs.Spellings.{is_capital, is_digit, is_capital_or_digit, is_long, without_suffix, is_flight_number, is_flight_name, is_day, is_station}

@@ -7,6 +7,7 @@ pub mod PartLemmas
 pub mod StartLemmas
 pub mod RestLemmas
 pub mod RowGrammar
+pub mod OneLine
 pub mod StepLemmas
 pub mod RowOnce
 pub mod PlanLemmas

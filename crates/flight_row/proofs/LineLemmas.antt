@@ -1,12 +1,9 @@
 -- each line of a row is read in one way only, and contains no end of a line
-use Rattle.std.proofs.Common.{◌≡◌, ⊎_elim, ℕ, ◌+◌, ◌-◌, ◌<◌, ◌≤◌, Bool, true, false, eqb, ◌∷◌, ◌++◌, List, [], length, refl, sym, ◌∙◌, ap, arith, All, codes, lit<, take, drop, slice_range}
-use Rattle.std.proofs.lemmas.Bool.{and_parts, ne_eqb}
-use Rattle.std.proofs.lemmas.List.Elements.{All-cons, All-weaker, All-append, All-same, All-from_recursion}
+use Rattle.std.proofs.Common.{◌≡◌, ℕ, ◌-◌, ◌<◌, ◌∷◌, List, [], refl, ◌∙◌, ap, All, codes, lit<}
+use Rattle.std.proofs.lemmas.List.Elements.{All-cons, All-weaker, All-from_recursion}
 use Rattle.mass_units.specs.Spelling.{number_text, index_text}
 use Rattle.mass_units.proofs.SpellingLemmas.{number_text-avoids, index_text-avoids}
-use Rattle.std.proofs.lemmas.List.{take-append-drop, drop-drop}
-use Rattle.std.specs.List.{list_all}
-use Rattle.hold_parts.specs.Spellings.{IsCapital, IsDigit, IsCapitalOrDigit, IsName, IsUldId}
+use Rattle.hold_parts.specs.Spellings.{IsName}
 use Rattle.hold_parts.specs.declared.parts.Item.{Item}
 use Rattle.payload.specs.declared.figures.ZoneCount.{ZoneCount}
 use Rattle.text_lines.specs.Cuts.{Avoids}

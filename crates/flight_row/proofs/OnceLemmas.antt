@@ -1,5 +1,5 @@
 -- two parts of a row that have one line are the same
-use Rattle.std.proofs.Common.{◌≡◌, ℕ, ◌<◌, ◌≤◌, Bool, true, false, ◌∷◌, List, [], refl, sym, ◌∙◌, ap, All, codes}
+use Rattle.std.proofs.Common.{◌≡◌, ℕ, ◌∷◌, List, [], refl, sym, ◌∙◌, ap, codes}
 use Rattle.std.specs.Prelude.{bytes_eq, if◌then◌else◌}
 use Rattle.mass_units.specs.Spelling.{number_text, index_text}
 use Rattle.mass_units.proofs.SpellingLemmas.{number_text-injective, index_text-injective}

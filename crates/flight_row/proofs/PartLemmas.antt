@@ -1,9 +1,9 @@
 -- how a refusal behind a part of a text is a refusal from the part on
-use Rattle.std.proofs.Common.{◌≡◌, ℕ, ◌+◌, ◌++◌, ◌∷◌, List, [], length, map, refl, sym, ◌∙◌, ap, subst, arith, All}
-use Rattle.std.proofs.lemmas.List.{append_assoc, append-nil, length-map}
-use Rattle.std.proofs.lemmas.List.Elements.{All-head, All-tail}
+use Rattle.std.proofs.Common.{◌≡◌, ℕ, ◌+◌, ◌++◌, ◌∷◌, List, [], length, map, refl, sym, subst, arith}
+use Rattle.std.proofs.lemmas.List.{length-map}
 use Rattle.text_lines.specs.Cuts.{Avoids}
-use Rattle.text_lines.specs.Grammar.{HasRun, Fails}
+use Rattle.text_lines.specs.Grammar.{Fails}
+use Rattle.flight_row.specs.Grammar.{HasRun}
 use Rattle.text_lines.specs.declared.fault.LineFault.{LineFault}
 use Rattle.text_lines.proofs.RunOfLines.{Stops}
 use Rattle.text_lines.proofs.GrammarLemmas.{IsStep, fails_earlier}

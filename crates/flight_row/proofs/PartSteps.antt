@@ -1,24 +1,14 @@
 -- late changes, line by line
-use Rattle.std.proofs.Common.{◌≡◌, ℕ, ◌+◌, ◌<◌, ◌≤◌, Bool, true, false, ◌&&◌, ◌∷◌, ◌++◌, List, [], length, map, refl, sym, ◌∙◌, ap, subst, arith, All}
+use Rattle.std.proofs.Common.{◌≡◌, ℕ, ◌+◌, ◌<◌, ◌≤◌, true, false, ◌∷◌, ◌++◌, List, [], length, refl, sym, ◌∙◌, ap, subst, arith, All}
 use Rattle.std.proofs.lemmas.Bool.{true≢false, and_parts, and_from}
-use Rattle.std.proofs.lemmas.List.{length-append, append-nil}
-use Rattle.std.proofs.lemmas.List.Elements.{All-nil, All-push}
-use Rattle.text_lines.specs.Cuts.{Avoids}
-use Rattle.text_lines.specs.Lines.{text_of}
-use Rattle.text_lines.specs.Sections.{Says}
-use Rattle.text_lines.proofs.CutLemmas.{split_once_again, has_mark}
-use Rattle.text_lines.proofs.SectionLemmas.{text_of-push}
+use Rattle.std.proofs.lemmas.List.{length-append}
 use Rattle.trim.specs.declared.figures.Figures.{Figures}
 use Rattle.flight_state.specs.Effective.{can_add, can_add_all, with_change, with_changes}
 use Rattle.flight_state.specs.declared.change.Lmc.{Lmc}
-use Rattle.flight_state.specs.declared.state.Stage.TheVariants.{Working, Planned, Released, Departed}
-use Rattle.flight_state.specs.declared.state.Stage.{Stage}
+use Rattle.flight_state.specs.declared.state.Stage.TheVariants.{Released}
 use Rattle.flight_row.specs.RowText.{change_line}
 use Rattle.flight_row.specs.Spelled.{IsSpelledChange, AreSpelledChanges}
-use Rattle.text_lines.specs.Sections.{ArePart}
 use Rattle.flight_row.proofs.ChangeLineLemmas.{change_once}
-use Rattle.flight_row.proofs.RestLemmas.{no_changes}
-use Rattle.text_lines.proofs.PartSteps.{too_long}
 
 pub with_changes-push : (f : Figures) (xs : List Lmc) (x : Lmc) → with_changes f (xs ++ x ∷ []) ≡ with_change (with_changes f xs) x
 with_changes-push f [] x = refl
@@ -40,11 +30,6 @@ pub record AreMade (f : Figures) (figures : Figures) (changes : List Lmc) : Type
   pub can_be_made : can_add_all f changes ≡ true
   pub few : length changes ≤ 10
 
-pub none_made : (f figures : Figures) (changes : List Lmc) → figures ≡ f → changes ≡ [] → AreMade f figures changes
-none_made f figures changes e none =
-    let made : AreMade f figures [] = record { figures_are = e; can_be_made = refl; few = omega arith } in
-    subst (AreMade f figures) (sym none) made
-
 pub one_made : (f figures next : Figures) (changes new : List Lmc) (change : Lmc) → AreMade f figures changes → length changes < 10 → can_add figures change ≡ true → next ≡ with_change figures change → new ≡ changes ++ change ∷ [] → AreMade f next new
 one_made f figures next changes new change so room can is grew =
     let long = length-append changes (change ∷ []) in
@@ -65,43 +50,3 @@ cannot_add f figures changes change text so right is cannot x right' s e =
     let same = change_once x change right' right (sym e ∙ is) in
     let can = ap (λ (g : Figures). can_add g x) so.figures_are ∙ last_added f changes x s.can_be_made in
     true≢false (sym can ∙ ap (λ (y : Lmc). can_add figures y) same ∙ cannot)
-
-pub ten_made : (f : Figures) (changes : List Lmc) → 10 ≤ length changes → (x : Lmc) → AreSpelledChanges f Released (changes ++ x ∷ []) → ⊥
-ten_made f changes full x s = too_long 10 changes full x s.few
-
--- the changes of a flight that has departed are those of one that is released
-pub part_departed : (f : Figures) (before after : List ℕ) (number next : ℕ) (changes : List Lmc) → ArePart change_line IsSpelledChange (AreSpelledChanges f Released) before after number next changes → ArePart change_line IsSpelledChange (AreSpelledChanges f Departed) before after number next changes
-part_departed f before after number next changes part =
-    let s = part.allowed in
-    record {
-      right = part.right;
-      allowed = record { few = s.few; each = s.each; can_be_made = s.can_be_made; for_stage = tt };
-      read = part.read;
-      counted = part.counted;
-      stops = λ x rest right avoids t e.
-          let released : AreSpelledChanges f Released (changes ++ x ∷ []) = record { few = t.few; each = t.each; can_be_made = t.can_be_made; for_stage = tt } in
-          part.stops x rest right avoids released e;
-    }
-
--- a flight in work, or one that is planned, has no changes
-pub part_working : (f : Figures) (text : List ℕ) (number : ℕ) (changes : List Lmc) → changes ≡ [] → ArePart change_line IsSpelledChange (AreSpelledChanges f Working) text text number number changes
-part_working f text number changes none =
-    let part : ArePart change_line IsSpelledChange (AreSpelledChanges f Working) text text number number [] = record {
-      right = All-nil IsSpelledChange;
-      allowed = no_changes f Working;
-      read = refl;
-      counted = omega arith;
-      stops = λ x rest right avoids s e. absurd (cc (s.for_stage));
-    } in
-    subst (ArePart change_line IsSpelledChange (AreSpelledChanges f Working) text text number number) (sym none) part
-
-pub part_planned : (f : Figures) (text : List ℕ) (number : ℕ) (changes : List Lmc) → changes ≡ [] → ArePart change_line IsSpelledChange (AreSpelledChanges f Planned) text text number number changes
-part_planned f text number changes none =
-    let part : ArePart change_line IsSpelledChange (AreSpelledChanges f Planned) text text number number [] = record {
-      right = All-nil IsSpelledChange;
-      allowed = no_changes f Planned;
-      read = refl;
-      counted = omega arith;
-      stops = λ x rest right avoids s e. absurd (cc (s.for_stage));
-    } in
-    subst (ArePart change_line IsSpelledChange (AreSpelledChanges f Planned) text text number number) (sym none) part

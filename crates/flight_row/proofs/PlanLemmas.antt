@@ -1,19 +1,16 @@
 -- the positions of a plan by their names, and the rules that a plan has to keep
-use Rattle.std.proofs.Common.{◌≡◌, ◌≢◌, ◌↔◌, ⊎_elim, ℕ, ◌+◌, ◌<◌, ◌≤◌, Bool, true, false, not, IsTrue, ◌∷◌, ◌++◌, List, [], length, map, take, get_or, refl, sym, ◌∙◌, ap, subst, arith, All, AllPairs, Contains, ◌⊎◌, Option, Some, None}
-use Rattle.std.specs.Prelude.{bytes_eq, position, slice_get, Any, Result, Ok, Err, IfErr}
-use Rattle.std.specs.Option.{option_map_or}
+use Rattle.std.proofs.Common.{◌≡◌, ◌≢◌, ⊎_elim, ℕ, ◌+◌, ◌<◌, ◌≤◌, true, false, IsTrue, ◌∷◌, ◌++◌, List, [], length, map, take, get_or, refl, sym, ◌∙◌, ap, subst, arith, All, AllPairs, Contains, ◌⊎◌, Some, None}
+use Rattle.std.specs.Prelude.{bytes_eq, position, Any, Result, Ok, Err, IfErr}
 use Rattle.std.proofs.lemmas.Bool.{true≢false, false≢true, cases_Bool}
-use Rattle.std.proofs.lemmas.List.{get_or-take, length-take, length-append, length-map, get_or-map, take_more, take_all}
-use Rattle.std.proofs.lemmas.List.Elements.{All-nil, All-cons, All-head, All-tail, All-push, All-weaker, All-contains, All-contains_itself, All-from_recursion}
+use Rattle.std.proofs.lemmas.List.{length-append, length-map, get_or-map, take_more, take_all}
+use Rattle.std.proofs.lemmas.List.Elements.{All-nil, All-head, All-tail, All-push, All-weaker, All-contains, All-contains_itself, All-from_recursion}
 use Rattle.std.proofs.lemmas.List.Quantifiers.{position-Some}
 use Rattle.std.proofs.lemmas.Option.{slice_get-get_or, same_Some}
 use Rattle.std.proofs.lemmas.Slice.Eq.{bytes_eq-Decides}
 use Rattle.hold_parts.specs.declared.parts.Position.{Position}
 use Rattle.hold_limits.specs.Layout.{name_at}
-use Rattle.hold_limits.specs.Bounds.{KeepsHoldRules}
 use Rattle.hold_limits.proofs.FaultLemmas.{position-none}
 use Rattle.hold_limits.proofs.LawfulBounds.{hold-bounds}
-use Rattle.text_lines.specs.Names.{IsNamed}
 use Rattle.text_lines.proofs.NameLemmas.{some_position, name_at-is, named_once}
 use Rattle.text_lines.proofs.NameRuns.{first_named}
 use Rattle.text_lines.proofs.SectionLemmas.{map-push}
@@ -32,7 +29,7 @@ use Rattle.trim.specs.Rules.{all_rules, Keeps, AreBroken}
 use Rattle.trim.specs.Laws.{plan_rules}
 use Rattle.trim.proofs.LawLemmas.{listed-is}
 use Rattle.flight_state.specs.declared.state.Stage.{Stage}
-use Rattle.flight_state.specs.declared.state.Stage.TheVariants.{Working, Planned, Released, Departed}
+use Rattle.flight_state.specs.declared.state.Stage.TheVariants.{Working, Planned, Departed}
 use Rattle.flight_state.specs.declared.state.FlightState.{FlightState}
 use Rattle.flight_state.specs.Effective.{effective}
 use Rattle.flight_row.specs.Loading.{AreNamed, StillHolds, rules_due}

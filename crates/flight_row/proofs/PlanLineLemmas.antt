@@ -1,7 +1,7 @@
 -- the line of a plan, name by name
 use Rattle.std.proofs.Common.{◌≡◌, ℕ, ◌+◌, ◌<◌, ◌≤◌, ◌∷◌, ◌++◌, List, [], length, refl, sym, ◌∙◌, ap, subst, arith, All, codes, lit≤}
-use Rattle.std.proofs.lemmas.List.{append_assoc, append-nil, length-append}
-use Rattle.std.proofs.lemmas.List.Elements.{All-nil, All-head, All-tail, All-push}
+use Rattle.std.proofs.lemmas.List.{append-nil}
+use Rattle.std.proofs.lemmas.List.Elements.{All-nil, All-head, All-tail}
 use Rattle.hold_parts.specs.Spellings.{IsName}
 use Rattle.text_lines.specs.Lines.{line_of}
 use Rattle.flight_row.specs.Words.{words_in}
@@ -21,16 +21,6 @@ pub record AreNamesSoFar (line : List ℕ) (names words : Words) : Type 0 where
 
 pub no_name : (line : List ℕ) (words : Words) → words_in line ≡ codes "plan" ∷ words → AreNamesSoFar line [] words
 no_name line words e = record { read = e; named = All-nil IsName; few = lit≤ tt }
-
-pub one_name : (line : List ℕ) (names new words rest : Words) (name : List ℕ) → AreNamesSoFar line names words → length names < 60 → IsName name → words ≡ name ∷ rest → new ≡ names ++ name ∷ [] → AreNamesSoFar line new rest
-one_name line names new words rest name so room named is grew =
-    let long = length-append names (name ∷ []) in
-    let more : AreNamesSoFar line (names ++ name ∷ []) rest = record {
-      read = so.read ∙ ap (λ (ws : Words). codes "plan" ∷ (names ++ ws)) is ∙ ap (λ (ws : Words). codes "plan" ∷ ws) (sym (append_assoc names (name ∷ []) rest));
-      named = All-push IsName names name so.named named;
-      few = omega (arith, long, room);
-    } in
-    subst (λ (ns : Words). AreNamesSoFar line ns rest) (sym grew) more
 
 pub all_names : (line : List ℕ) (names words : Words) → AreNamesSoFar line names words → words ≡ [] → IsSpelledPlan names × (line ≡ plan_line names)
 all_names line names words so none =

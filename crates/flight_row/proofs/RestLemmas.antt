@@ -1,19 +1,16 @@
 -- the lines from that of the plan on say one plan and late changes
-use Rattle.std.proofs.Common.{◌≡◌, ℕ, ◌+◌, ◌≤◌, Bool, true, ◌&&◌, ◌∷◌, ◌++◌, List, [], length, map, refl, sym, ◌∙◌, ap, subst, arith, All, codes, lit≤, Option, Some, None}
-use Rattle.std.specs.Prelude.{IfSome, IsSome}
+use Rattle.std.proofs.Common.{◌≡◌, ℕ, ◌+◌, ◌≤◌, true, ◌&&◌, ◌∷◌, ◌++◌, List, [], refl, ◌∙◌, ap, arith, All, codes, lit≤}
 use Rattle.std.proofs.lemmas.Bool.{and_parts}
-use Rattle.std.proofs.lemmas.List.{append_assoc, append-nil, length-append}
+use Rattle.std.proofs.lemmas.List.{length-append}
 use Rattle.std.proofs.lemmas.List.Elements.{All-nil, All-cons, All-head, All-tail}
-use Rattle.text_lines.specs.Grammar.{HasOne, HasRun, Begins}
+use Rattle.text_lines.specs.Grammar.{Begins}
 use Rattle.trim.specs.declared.figures.Figures.{Figures}
 use Rattle.flight_state.specs.Effective.{can_add, can_add_all, with_change}
 use Rattle.flight_state.specs.declared.change.Lmc.{Lmc}
 use Rattle.flight_state.specs.declared.state.Stage.{Stage}
 use Rattle.flight_state.specs.declared.state.Stage.TheVariants.{Working, Planned, Released, Departed}
-use Rattle.flight_row.specs.RowText.{plan_line, plan_lines, change_line}
-use Rattle.flight_row.specs.Spelled.{IsSpelledPlan, IsSpelledChange, AreSpelledChanges, HasPlanFor, HasChangesFor}
+use Rattle.flight_row.specs.Spelled.{IsSpelledPlan, IsSpelledChange, AreSpelledChanges, HasChangesFor}
 use Rattle.flight_row.specs.Grammar.{FromEnd, FromChanges, FromPlan}
-use Rattle.flight_row.specs.Reading.{IsPlanFor, rest_lines}
 
 abbrev Lines : Type 0
 Lines = List (List ℕ)

@@ -2,13 +2,9 @@
 use Rattle.std.proofs.Common.{◌≡◌, ℕ, ◌+◌, ◌≤◌, ◌∷◌, ◌++◌, List, [], length, map, refl, sym, ◌∙◌, ap, subst, arith, All, codes, lit≤, Option, Some, None}
 use Rattle.std.proofs.lemmas.List.{append_assoc}
 use Rattle.std.proofs.lemmas.List.Elements.{All-nil, All-cons, All-head}
-use Rattle.hold_parts.specs.declared.parts.Item.{Item}
-use Rattle.payload.specs.declared.figures.ZoneCount.{ZoneCount}
 use Rattle.text_lines.specs.Grammar.{Fails}
 use Rattle.text_lines.proofs.GrammarLemmas.{fails_same}
 use Rattle.text_lines.specs.declared.fault.LineFault.{LineFault}
-use Rattle.trim.specs.Limits.{HasFewPassengers}
-use Rattle.trim.specs.declared.figures.LooseFigure.{LooseFigure}
 use Rattle.trim.specs.declared.figures.Figures.{Figures}
 use Rattle.flight_state.specs.declared.change.Lmc.{Lmc}
 use Rattle.flight_state.specs.declared.state.Stage.{Stage}
@@ -16,9 +12,9 @@ use Rattle.flight_state.specs.declared.state.Stage.TheVariants.{Working, Planned
 use Rattle.flight_row.specs.declared.row.Version.{Version}
 use Rattle.flight_row.specs.declared.row.Version.TheVariants.{One, Two}
 use Rattle.flight_row.specs.declared.row.Row.{Row}
-use Rattle.flight_row.specs.RowText.{version_line, leg_line, edition_line, stage_line, releases_line, releases_lines, dry_line, fuel_line, limits_line, zone_line, container_line, loose_line, plan_line, plan_lines, change_line, figure_lines, row_lines}
-use Rattle.flight_row.specs.Spelled.{IsSpelledContainer, IsSpelledLoad, IsSpelledPlan, IsSpelledChange, AreSpelledChanges, AreSpelledFigures, AreReleases, first_releases, IsSpelled}
-use Rattle.flight_row.specs.Grammar.{FromEnd, FromChanges, FromPlan, FromLoads, FromContainers, FromZones, FromDry, FromReleases, FromLeg, FromVersion, figures_with}
+use Rattle.flight_row.specs.RowText.{version_line, leg_line, edition_line, stage_line, releases_lines, dry_line, fuel_line, limits_line, zone_line, container_line, loose_line, plan_line, plan_lines, change_line, figure_lines, row_lines}
+use Rattle.flight_row.specs.Spelled.{IsSpelledPlan, AreSpelledChanges, AreSpelledFigures, AreReleases, first_releases, IsSpelled}
+use Rattle.flight_row.specs.Grammar.{FromEnd, FromChanges, FromPlan, FromZones, FromDry, FromReleases, FromVersion, figures_with}
 use Rattle.flight_row.specs.Reading.{IsPlanFor, rest_lines}
 use Rattle.flight_row.specs.Refusals.{AreRow}
 use Rattle.flight_row.proofs.RestLemmas.{ends}

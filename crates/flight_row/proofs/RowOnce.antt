@@ -1,11 +1,10 @@
 -- a text is the row of one flight at most, and has no fault then
-use Rattle.std.proofs.Common.{◌≡◌, ℕ, ◌+◌, Bool, true, eqb, false, ◌∷◌, ◌++◌, List, [], map, refl, sym, ◌∙◌, ap, subst, All, codes, Option, Some, None}
+use Rattle.std.proofs.Common.{◌≡◌, ℕ, ◌+◌, Bool, true, ◌∷◌, ◌++◌, List, [], map, refl, sym, ◌∙◌, ap, subst, All, codes, Option, Some, None}
 use Rattle.std.specs.Prelude.{IfSome}
 use Rattle.std.proofs.lemmas.List.{append_assoc, append-nil}
-use Rattle.std.proofs.lemmas.List.Elements.{All-head, All-tail, All-nil, All-cons, All-append, All-map, All-weaker, All-same}
+use Rattle.std.proofs.lemmas.List.Elements.{All-nil, All-cons, All-append, All-map, All-weaker}
 use Rattle.hold_parts.specs.declared.parts.Item.{Item}
 use Rattle.text_lines.specs.Cuts.{Avoids}
-use Rattle.text_lines.specs.Lines.{text_of}
 use Rattle.text_lines.specs.Grammar.{Fails}
 use Rattle.text_lines.specs.declared.fault.LineFault.{LineFault}
 use Rattle.text_lines.specs.declared.fault.LineFault.TheVariants as fault

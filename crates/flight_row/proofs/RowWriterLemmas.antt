@@ -1,5 +1,5 @@
 -- the text of a row, line by line
-use Rattle.std.proofs.Common.{◌≡◌, ℕ, ℤ, FitsSigned, w16, w32, to_z, of_z, ◌∷◌, ◌++◌, List, [], map, refl, sym, ◌∙◌, ap, arith, codes, Some}
+use Rattle.std.proofs.Common.{◌≡◌, ℕ, ℤ, FitsSigned, w16, w32, to_z, of_z, ◌∷◌, ◌++◌, List, [], map, sym, ◌∙◌, ap, arith, codes, Some}
 use Rattle.std.proofs.lemmas.Int.{to_z-of_z, fits_signed_from_abs}
 use Rattle.mass_units.specs.Spelling.{number_text, signed_text}
 use Rattle.mass_units.proofs.SpellingLemmas.{unsigned_abs-fits}

@@ -1,5 +1,5 @@
 -- what a flight at a stage has
-use Rattle.std.proofs.Common.{◌≡◌, ℕ, ◌≤◌, List, [], Option, Some, None, refl, arith}
+use Rattle.std.proofs.Common.{ℕ, ◌≤◌, Some, None, refl, arith}
 use Rattle.flight_state.specs.declared.state.Stage.{Stage}
 use Rattle.flight_state.specs.declared.state.Stage.TheVariants.{Working, Planned, Released, Departed}
 use Rattle.flight_row.specs.declared.row.Version.{Version}

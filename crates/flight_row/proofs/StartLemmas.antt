@@ -1,8 +1,7 @@
 -- with which words the lines of a row begin from some point of its text on
-use Rattle.std.proofs.Common.{◌≡◌, ℕ, Bool, true, false, cond, ◌==◌, ◌∷◌, ◌++◌, List, [], map, refl, sym, ◌∙◌, ap, subst, codes}
+use Rattle.std.proofs.Common.{◌≡◌, ℕ, Bool, true, false, ◌==◌, ◌∷◌, ◌++◌, List, [], map, refl, sym, ◌∙◌, ap, codes}
 use Rattle.std.specs.Prelude.{bytes_eq, not, if◌then◌else◌}
 use Rattle.std.proofs.lemmas.Bool.{true≢false}
-use Rattle.text_lines.specs.Grammar.{HasOne, HasRun}
 use Rattle.text_lines.proofs.RunOfLines.{Stops}
 use Rattle.flight_state.specs.declared.change.Lmc.{Lmc}
 use Rattle.flight_state.specs.declared.change.Lmc.TheVariants.{Cabin, Loose}
@@ -13,7 +12,7 @@ use Rattle.trim.specs.declared.figures.LooseFigure.{LooseFigure}
 use Rattle.hold_parts.specs.declared.parts.Item.{Item}
 use Rattle.payload.specs.declared.figures.ZoneCount.{ZoneCount}
 use Rattle.flight_row.specs.RowText.{zone_line, container_line, loose_line, plan_line, change_line}
-use Rattle.flight_row.specs.Grammar.{FromEnd, FromChanges, FromPlan, FromLoads, FromContainers}
+use Rattle.flight_row.specs.Grammar.{HasOne, HasRun, FromEnd, FromChanges, FromPlan, FromLoads, FromContainers}
 
 abbrev Lines : Type 0
 Lines = List (List ℕ)

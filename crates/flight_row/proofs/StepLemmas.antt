@@ -1,18 +1,18 @@
 -- what a step of the reader says, from an earlier point of the text on
-use Rattle.std.proofs.Common.{◌≡◌, ◌↔◌, ◌⊎◌, ⊎_elim, ℕ, ◌+◌, ◌≤◌, ◌<◌, pos, ◌∷◌, ◌++◌, List, [], length, map, refl, sym, ◌∙◌, ap, subst, arith, All, codes, lit≤, Option, Some, None}
+use Rattle.std.proofs.Common.{◌≡◌, ◌↔◌, ◌⊎◌, ⊎_elim, ℕ, ◌+◌, ◌≤◌, ◌<◌, pos, ◌∷◌, ◌++◌, List, [], length, map, refl, sym, ◌∙◌, ap, subst, arith, codes, lit≤, Option, Some, None}
 use Rattle.std.proofs.lemmas.Bool.{true≢false}
 use Rattle.std.specs.Prelude.{option_to_list, IsSome, is_some, Result, Ok, Err, IfOk, IfErr}
 use Rattle.std.proofs.lemmas.List.{append_assoc, length-append}
-use Rattle.std.proofs.lemmas.List.Elements.{All-nil, All-head}
+use Rattle.std.proofs.lemmas.List.Elements.{All-nil}
 use Rattle.hold_parts.specs.declared.parts.Item.{Item}
 use Rattle.payload.specs.declared.figures.ZoneCount.{ZoneCount}
 use Rattle.text_lines.specs.Lines.{text_of, IsStopped}
-use Rattle.text_lines.specs.Grammar.{HasOne, HasRun, Begins, Fails}
+use Rattle.text_lines.specs.Grammar.{Begins, Fails}
 use Rattle.text_lines.specs.Grammar.Fails.{more_bytes, no_memory}
 use Rattle.text_lines.specs.declared.fault.LineFault.{LineFault}
 use Rattle.text_lines.specs.declared.fault.LineFault.TheVariants.{Line, NoMemory}
 use Rattle.text_lines.proofs.SectionLemmas.{text_of-append}
-use Rattle.text_lines.proofs.GrammarLemmas.{fails_before_line, fails_at_line}
+use Rattle.flight_row.proofs.OneLine.{fails_before_line, fails_at_line}
 use Rattle.trim.specs.Limits.{HasFewPassengers}
 use Rattle.trim.specs.declared.figures.Dry.{Dry}
 use Rattle.trim.specs.declared.figures.Fuel.{Fuel}
@@ -28,7 +28,7 @@ use Rattle.flight_row.specs.declared.row.Version.{Version}
 use Rattle.flight_row.specs.declared.row.Version.TheVariants.{One, Two}
 use Rattle.flight_row.specs.RowText.{version_line, leg_line, edition_line, stage_line, releases_line, releases_lines, dry_line, fuel_line, limits_line, zone_line, container_line, loose_line, plan_line, plan_lines, change_line, figure_lines}
 use Rattle.flight_row.specs.Spelled.{IsEdition, IsSpelledDry, IsSpelledFuel, AreSpelledLimits, IsSpelledContainer, IsSpelledLoad, IsSpelledPlan, IsSpelledChange, AreSpelledChanges, AreSpelledFigures, AreToldReleases}
-use Rattle.flight_row.specs.Grammar.{FromEnd, FromChanges, FromPlan, FromLoads, FromContainers, FromZones, FromDry, FromReleases, FromLeg, FromVersion, figures_with, end_line}
+use Rattle.flight_row.specs.Grammar.{HasOne, FromEnd, FromChanges, FromPlan, FromLoads, FromContainers, FromZones, FromDry, FromReleases, FromLeg, FromVersion, figures_with, end_line}
 use Rattle.text_lines.specs.Sections.{ArePart, IsOfKind}
 use Rattle.flight_row.specs.Reading.{HasRead, IsPlanFor, rest_lines}
 use Rattle.flight_row.specs.declared.row.Row.{Row}

@@ -1,5 +1,5 @@
 -- lines and their words
-use Rattle.std.proofs.Common.{◌≡◌, ◌≢◌, ℕ, ◌<◌, Bool, true, false, ◌∷◌, ◌++◌, List, [], length, refl, sym, ◌∙◌, ap, arith, All, eqb, IsTrue, Option, Some, None, IfNone}
+use Rattle.std.proofs.Common.{◌≡◌, ◌≢◌, ℕ, Bool, true, false, ◌∷◌, ◌++◌, List, [], length, refl, sym, ◌∙◌, ap, arith, All, eqb, IsTrue, Option, Some, None, IfNone}
 use Rattle.std.specs.Prelude.{bytes_eq}
 use Rattle.std.proofs.lemmas.Bool.{false≢true}
 use Rattle.std.proofs.lemmas.Slice.Eq.{bytes_eq-Decides}
@@ -19,10 +19,6 @@ words-line_of w [] clear = slice_split_none is_space w (All-head (Avoids 32) w [
 words-line_of w (v ∷ ws) clear =
     slice_split_at is_space w 32 (line_of (v ∷ ws)) (All-head (Avoids 32) w (v ∷ ws) clear) refl
     ∙ ap (λ (t : List (List ℕ)). w ∷ t) (words-line_of v ws (All-tail (Avoids 32) w (v ∷ ws) clear))
-
--- lines of such words are the same only where the words are
-pub words_once : (w v : List ℕ) (ws vs : List (List ℕ)) → All (Avoids 32) (w ∷ ws) → All (Avoids 32) (v ∷ vs) → line_of (w ∷ ws) ≡ line_of (v ∷ vs) → w ∷ ws ≡ v ∷ vs
-words_once w v ws vs p q e = sym (words-line_of w ws p) ∙ ap words_in e ∙ words-line_of v vs q
 
 -- a line of words without the end of a line has none
 pub line-avoids : (w : List ℕ) (ws : List (List ℕ)) → All (Avoids 10) (w ∷ ws) → Avoids 10 (line_of (w ∷ ws))

@@ -1,6 +1,6 @@
 -- a row that was written is read back
-use Rattle.std.proofs.Common.{◌≡◌, ⊎_elim, ℕ, ◌+◌, ◌-◌, ◌≤◌, ◌<◌, Bool, true, false, ◌&&◌, ℤ, pos, negsuc, ◌+ℤ◌, unsigned_abs, ◌∷◌, ◌++◌, List, [], length, map, get_or, refl, sym, ◌∙◌, ap, subst, arith, All, Option, Some, None}
-use Rattle.std.specs.Prelude.{IfSome, nat_le, int_le, find, unwrap_or, slice_get, bytes_eq, option_map}
+use Rattle.std.proofs.Common.{◌≡◌, ⊎_elim, ℕ, ◌+◌, ◌-◌, ◌≤◌, ◌<◌, Bool, true, false, ◌&&◌, ℤ, pos, ◌+ℤ◌, unsigned_abs, ◌∷◌, List, [], length, map, get_or, sym, ◌∙◌, ap, subst, arith, All, Option, Some, None}
+use Rattle.std.specs.Prelude.{IfSome, nat_le, int_le, find, unwrap_or, bytes_eq, option_map}
 use Rattle.std.proofs.lemmas.Bool.{and_parts, leb-true, cond_both, cases_lt, cases_Bool, cond-true, cond-false}
 use Rattle.hold_limits.proofs.EnumerationLemmas.{int_le-Decides}
 use Rattle.std.proofs.lemmas.Int.{ints}
@@ -30,8 +30,8 @@ use Rattle.flight_state.specs.Legs.{IsSpelledLeg}
 use Rattle.flight_state.proofs.LimitLemmas.{AreWithin, within_change}
 use Rattle.flight_row.specs.declared.row.Version.TheVariants.{Two}
 use Rattle.flight_row.specs.RowText.{row_text}
-use Rattle.flight_row.specs.Spelled.{IsSpelledPlan, IsSpelledChange, IsNamedChange, AreSpelledChanges}
-use Rattle.flight_row.specs.Loading.{HasRow, KeepsPlan, Reads, aircraft_of, row_of, plan_names}
+use Rattle.flight_row.specs.Spelled.{IsSpelledPlan, IsSpelledChange, IsNamedChange}
+use Rattle.flight_row.specs.Loading.{HasRow, KeepsPlan, Reads, aircraft_of, row_of}
 use Rattle.flight_row.proofs.LoadLemmas.{HasTexts, reads_again}
 
 -- a change that leaves a number within its limit is itself within it

@@ -1,8 +1,7 @@
 -- which lines a row has from some point of its text on
-use Rattle.std.specs.Prelude.{◌≡◌, ℕ, ◌≤◌, List, [], length, codes}
+use Rattle.std.specs.Prelude.{◌≡◌, ℕ, ◌≤◌, List, [], ◌∷◌, ◌++◌, length, map, All, codes}
 use Rattle.hold_parts.specs.declared.parts.Item.{Item}
 use Rattle.payload.specs.declared.figures.ZoneCount.{ZoneCount}
-use Rattle.text_lines.specs.Grammar.{HasOne, HasRun}
 use Rattle.trim.specs.Limits.{HasFewPassengers}
 use Rattle.trim.specs.declared.figures.Dry.{Dry}
 use Rattle.trim.specs.declared.figures.Fuel.{Fuel}
@@ -18,6 +17,22 @@ use Rattle.flight_row.specs.declared.row.Version.{Version}
 use Rattle.flight_row.specs.declared.row.Version.TheVariants.{One, Two}
 use Rattle.flight_row.specs.RowText.{version_line, leg_line, edition_line, stage_line, releases_line, dry_line, fuel_line, limits_line, zone_line, container_line, loose_line, plan_line, change_line}
 use Rattle.flight_row.specs.Spelled.{IsEdition, IsSpelledDry, IsSpelledFuel, AreSpelledLimits, IsSpelledContainer, IsSpelledLoad, IsSpelledPlan, IsSpelledChange, AreSpelledChanges, AreToldReleases}
+
+-- one line that states an entry of its kind, and then lines that may follow that entry
+pub record HasOne {X : Type 0} (line : X → List ℕ) (IsRight : X → Type 0) (Follows : X → List (List ℕ) → Type 0) (lines : List (List ℕ)) : Type 0 where
+  pub said : X
+  pub right : IsRight said
+  pub more : List (List ℕ)
+  pub follows : Follows said more
+  pub are : lines ≡ line said ∷ more
+
+-- any number of lines that state entries of one kind, and then lines that may follow those entries
+pub record HasRun {X : Type 0} (line : X → List ℕ) (IsRight : X → Type 0) (Follows : List X → List (List ℕ) → Type 0) (lines : List (List ℕ)) : Type 0 where
+  pub said : List X
+  pub right : All IsRight said
+  pub more : List (List ℕ)
+  pub follows : Follows said more
+  pub are : lines ≡ map line said ++ more
 
 abbrev pub Lines : Type 0
 Lines = List (List ℕ)

@@ -1,6 +1,5 @@
 -- what the steps of the reader return
-use Rattle.std.specs.Prelude.{◌≡◌, ◌≢◌, ℕ, ◌+◌, List, [], ◌∷◌, ◌++◌, length, map, All, Option, IfSome, codes}
-use Rattle.text_lines.specs.Cuts.{Avoids}
+use Rattle.std.specs.Prelude.{◌≡◌, ℕ, ◌+◌, List, [], ◌∷◌, ◌++◌, map, Option, IfSome, codes}
 use Rattle.text_lines.specs.Lines.{text_of}
 use Rattle.text_lines.specs.Grammar.{Fails}
 use Rattle.text_lines.specs.declared.fault.LineFault.{LineFault}

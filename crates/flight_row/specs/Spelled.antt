@@ -1,5 +1,5 @@
 -- which rows have a text
-use Rattle.std.specs.Prelude.{◌≡◌, ◌≢◌, ℕ, ◌≤◌, unsigned_abs, true, List, [], length, All, Option, None, IfSome, IsSome}
+use Rattle.std.specs.Prelude.{◌≡◌, ℕ, ◌≤◌, unsigned_abs, true, List, [], length, All, Option, None, IfSome, IsSome}
 use Rattle.mass_units.specs.Spelling.{IsIndex}
 use Rattle.hold_parts.specs.Spellings.{IsName, IsUldId}
 use Rattle.hold_parts.specs.declared.parts.Item.{Item}

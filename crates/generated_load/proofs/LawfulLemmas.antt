@@ -1,10 +1,10 @@
 -- the load is lawful for every number
-use Rattle.std.proofs.Common.{◌≡◌, ◌<◌, ◌≤◌, ℕ, zero, suc, Bool, true, false, nat_lt, ⊎_elim, List, [], ◌∷◌, map, length, get_or, codes, Option, Some, None, refl, arith, ◌%◌, ◌+◌, ◌*◌}
+use Rattle.std.proofs.Common.{◌≡◌, ◌≤◌, ℕ, true, false, nat_lt, ⊎_elim, [], ◌∷◌, map, length, get_or, codes, None, refl, arith, ◌%◌, ◌+◌, ◌*◌}
 use Rattle.std.specs.Prelude.{All, position}
-use Rattle.std.specs.List.{range_with_len, AllByRecursion}
-use Rattle.std.proofs.lemmas.List.Elements.{All-from_recursion, All-map, All-same}
+use Rattle.std.specs.List.{range_with_len}
+use Rattle.std.proofs.lemmas.List.Elements.{All-from_recursion, All-map}
 use Rattle.std.proofs.lemmas.Nat.{mod_below}
-use Rattle.std.proofs.lemmas.Bool.{le-ltb, cases_Bool}
+use Rattle.std.proofs.lemmas.Bool.{cases_Bool}
 use Rattle.base_words.specs.Lists.{first_repeat}
 use Rattle.hold_parts.specs.declared.parts.Position.{Position}
 use Rattle.hold_parts.specs.declared.parts.Item.{Item}

@@ -76,9 +76,6 @@ leave-one hold d item q qs whole is =
       λ all. let split : LeaveOne hold d (item, q ∷ qs) = subst (λ set. LeaveOne hold d (item, set)) is all in All-tail P q qs split,
     )
 
-pub leave-none : (hold : Layout) (d : ℕ) (item : Item) (whole : List ℕ) → whole ≡ [] → LeaveOne hold d (item, whole)
-leave-none hold d item whole is = subst (λ set. LeaveOne hold d (item, set)) (sym is) (All-nil (λ p. IsMultiple d (placed_moment hold (item, p) -ℤ placed_moment hold (item, first []))))
-
 -- one position more of a container
 pub number-more : (P : ℕ → Type 0) (q : ℕ) (rest whole : List ℕ) (old new : Type 0) (start : Type 0) → whole ≡ q ∷ rest → (new ↔ (P q × old)) → ((old × All P whole) ↔ start) → (new × All P rest) ↔ start
 number-more P q rest whole old new start is more so_far = (

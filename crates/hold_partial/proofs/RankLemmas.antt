@@ -87,9 +87,6 @@ or-right : (a b : Bool) → b ≡ true → (a || b) ≡ true
 or-right true b is = refl
 or-right false b is = is
 
-self-in : (n : ℕ) → (n == n) ≡ true
-self-in n = grind (arith, nat_tests)
-
 pub in-filter : (p : ℕ → Bool) (ns : List ℕ) (q : ℕ) → In ns q → p q ≡ true → In (filter p ns) q
 in-filter p [] q is passes = is
 in-filter p (n ∷ ns) q is passes = ⊎_elim

@@ -1,18 +1,10 @@
 -- The elements behind the name of a position: their number says what stands there.
-use Rattle.std.proofs.Common.{◌≡◌, ℕ, ◌+◌, ◌≤◌, List, [], ◌∷◌, ◌++◌, length, map, get_or, drop, Option, Some, None, refl, sym, ap, ◌∙◌, arith}
+use Rattle.std.proofs.Common.{◌≡◌, ℕ, ◌+◌, List, [], ◌∷◌, ◌++◌, length, drop, Option, Some, None, refl, sym, ap, arith}
 use Rattle.std.specs.Prelude.{codes}
-use Rattle.std.proofs.lemmas.List.{length-map}
 use Rattle.telex.specs.Elements.{Element, said}
 use Rattle.telex.specs.declared.reading.Part.{Part}
-use Rattle.ldm_cpm.specs.Messages.{Placing, content_elements, place_elements, IsSpelledContent, IsSpelledPlacing}
+use Rattle.ldm_cpm.specs.Messages.{Placing, content_elements, place_elements, IsSpelledContent}
 use Rattle.ldm_cpm.proofs.HeadLemmas.{before-at, text-at}
-
-pub one-content : (id to : Option (List ℕ)) (mass : ℕ) (one : Element) → IsSpelledContent id to mass → one ∷ [] ≡ content_elements id to mass
-    → (id ≡ None) × (to ≡ None)
-one-content (Some id) (Some to) mass one s e = absurd (omega (arith, ap length e))
-one-content (Some id) None mass one s e = absurd s
-one-content None (Some to) mass one s e = absurd (omega (arith, ap length e))
-one-content None None mass one s e = (refl, refl)
 
 pub two-content : (id to : Option (List ℕ)) (mass : ℕ) (one two : Element) → IsSpelledContent id to mass → one ∷ two ∷ [] ≡ content_elements id to mass
     → (id ≡ None) × (to ≡ Some one.1)
@@ -31,19 +23,6 @@ three-content (Some id) None mass one two three s e = absurd s
 three-content None (Some to) mass one two three s e = absurd (omega (arith, ap length e))
 three-content None None mass one two three s e = absurd (omega (arith, ap length e))
 
--- one to three elements stand behind the name
-some-content : (id to : Option (List ℕ)) (mass : ℕ) → IsSpelledContent id to mass → (1 ≤ length (content_elements id to mass)) × (length (content_elements id to mass) ≤ 3)
-some-content (Some id) (Some to) mass s = (omega arith, omega arith)
-some-content (Some id) None mass s = absurd s
-some-content None (Some to) mass s = (omega arith, omega arith)
-some-content None None mass s = (omega arith, omega arith)
-
-pub some-parts : (parts : List Part) (p : Placing) → IsSpelledPlacing p → said parts ≡ place_elements p → (2 ≤ length parts) × (length parts ≤ 4)
-some-parts parts p s e =
-    let few = some-content p.id p.destination p.mass.0 s.content in
-    let same : length parts ≡ 1 + length (content_elements p.id p.destination p.mass.0) = omega (arith, ap length e, length-map {B = Element} parts (λ (part : Part). (part.before, part.text.now))) in
-    (omega (arith, few.0, same), omega (arith, few.1, same))
-
 -- the first part says which position it is, and the others what stands there
 pub record SaysPlace (a : Part) (rest : List Part) (p : Placing) : Type 0 where
   pub mark : a.before ≡ 0
@@ -56,8 +35,3 @@ says-place a rest p e = record {
   name = text-at 0 (said (a ∷ rest)) (place_elements p) e;
   behind = ap (λ (es : List Element). drop 1 es) e;
 }
-
-pub said-place : (a : Part) (rest : List Part) (p : Placing) → SaysPlace a rest p → said (a ∷ rest) ≡ place_elements p
-said-place a rest p s =
-    let front : said (a ∷ []) ≡ (0, codes "-" ++ p.name) ∷ [] = rw (s.mark, s.name) refl in
-    ap (λ (es : List Element). es ++ said rest) front ∙ ap (λ (es : List Element). (0, codes "-" ++ p.name) ∷ es) s.behind

@@ -1,13 +1,12 @@
 -- Which lines may begin a container message.
-use Rattle.std.proofs.Common.{◌≡◌, ℕ, suc, ◌+◌, ◌<◌, ◌≤◌, List, [], ◌∷◌, ◌++◌, length, map, get_or, None, inr, refl, sym, ap, subst, ◌∙◌, arith, length-append, append_assoc}
-use Rattle.std.specs.Prelude.{◌≢◌, All, AllPairs, codes}
+use Rattle.std.proofs.Common.{◌≡◌, ℕ, suc, ◌+◌, ◌≤◌, List, [], ◌∷◌, ◌++◌, length, get_or, None, inr, refl, sym, ap, subst, arith, append_assoc}
+use Rattle.std.specs.Prelude.{◌≢◌, codes}
 use Rattle.std.proofs.lemmas.List.{append-nil}
-use Rattle.std.proofs.lemmas.List.Elements.{All-nil, All-cons, All-head}
-use Rattle.mass_units.specs.declared.Kg.{Kg}
+use Rattle.std.proofs.lemmas.List.Elements.{All-nil, All-cons}
 use Rattle.hold_parts.specs.Spellings.{IsCapitalOrDigit}
 use Rattle.telex.specs.Elements.{line_text}
 use Rattle.text_lines.specs.Grammar.{Begins}
-use Rattle.ldm_cpm.specs.Messages.{Heading, IsSpelledHeading, Placing, HoldMessage, heading_elements, place_elements, place_lines, cpm_lines, IsSpelledPlacing, AreSpelledPlacings, IsSpelledCpm}
+use Rattle.ldm_cpm.specs.Messages.{Heading, IsSpelledHeading, Placing, heading_elements, place_lines, IsSpelledPlacing, AreSpelledPlacings}
 use Rattle.ldm_cpm.specs.Reading.{AreCpmLines}
 use Rattle.ldm_cpm.proofs.LdmFaults.{some_heading, spelled-some_heading}
 

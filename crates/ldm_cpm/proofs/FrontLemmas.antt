@@ -42,12 +42,3 @@ pub two-up : {X : Type 0} (xs : List X) (a b d0 d1 : X) → 2 ≤ length xs → 
 two-up [] a b d0 d1 n p q = absurd (omega (arith, n))
 two-up (x0 ∷ []) a b d0 d1 n p q = absurd (omega (arith, n))
 two-up (x0 ∷ x1 ∷ more) a b d0 d1 n p q = rw (p, q) (ap (λ ys. x0 ∷ x1 ∷ ys) (sym (take_all (length (x0 ∷ x1 ∷ more) - 2) more (omega arith))))
-
--- the first five and the others
-pub five-up : {X : Type 0} (xs : List X) (a b c d e d0 d1 d2 d3 d4 : X) → 5 ≤ length xs → a ≡ get_or xs 0 d0 → b ≡ get_or xs 1 d1 → c ≡ get_or xs 2 d2 → d ≡ get_or xs 3 d3 → e ≡ get_or xs 4 d4 → xs ≡ a ∷ b ∷ c ∷ d ∷ e ∷ take (length xs - 5) (drop 5 xs)
-five-up [] a b c d e d0 d1 d2 d3 d4 n p q r s t = absurd (omega (arith, n))
-five-up (x0 ∷ []) a b c d e d0 d1 d2 d3 d4 n p q r s t = absurd (omega (arith, n))
-five-up (x0 ∷ x1 ∷ []) a b c d e d0 d1 d2 d3 d4 n p q r s t = absurd (omega (arith, n))
-five-up (x0 ∷ x1 ∷ x2 ∷ []) a b c d e d0 d1 d2 d3 d4 n p q r s t = absurd (omega (arith, n))
-five-up (x0 ∷ x1 ∷ x2 ∷ x3 ∷ []) a b c d e d0 d1 d2 d3 d4 n p q r s t = absurd (omega (arith, n))
-five-up (x0 ∷ x1 ∷ x2 ∷ x3 ∷ x4 ∷ more) a b c d e d0 d1 d2 d3 d4 n p q r s t = rw (p, q, r, s, t) (ap (λ ys. x0 ∷ x1 ∷ x2 ∷ x3 ∷ x4 ∷ ys) (sym (take_all (length (x0 ∷ x1 ∷ x2 ∷ x3 ∷ x4 ∷ more) - 5) more (omega arith))))

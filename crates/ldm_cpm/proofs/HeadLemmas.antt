@@ -1,5 +1,5 @@
 -- The elements of a message's second line, part by part.
-use Rattle.std.proofs.Common.{◌≡◌, ℕ, ◌+◌, ◌≤◌, List, [], ◌∷◌, ◌++◌, length, get_or, take, refl, sym, ap, ◌∙◌, arith}
+use Rattle.std.proofs.Common.{◌≡◌, ℕ, ◌+◌, List, [], ◌∷◌, ◌++◌, length, get_or, take, refl, ap, ◌∙◌, arith}
 use Rattle.std.proofs.lemmas.List.{length-map}
 use Rattle.mass_units.specs.Spelling.{number_text}
 use Rattle.telex.specs.Elements.{Element, said}
@@ -17,13 +17,6 @@ text-at k a b e = ap (λ (es : List Element). (get_or es k (0, [])).1) e
 abbrev pub heading_from : List ℕ → List ℕ → List ℕ → List ℕ → Heading
 heading_from flight day registration version = record { flight = flight; day = day; registration = registration; version = version }
 
-pub said-head : (a b c d : Part) → a.before ≡ 0 → b.before ≡ slash → c.before ≡ dot → d.before ≡ dot
-    → said (a ∷ b ∷ c ∷ d ∷ []) ≡ heading_elements (heading_from a.text.now b.text.now c.text.now d.text.now)
-said-head a b c d e f g h = rw (e, f, g, h) refl
-
-same-heading : (a b c d : List ℕ) (h : Heading) → a ≡ h.flight → b ≡ h.day → c ≡ h.registration → d ≡ h.version → heading_from a b c d ≡ h
-same-heading a b c d h e f g k = rw (e, f, g, k) refl
-
 -- parts that say what a heading is
 pub record SaysHeading (a b c d : Part) (h : Heading) : Type 0 where
   pub flight : a.before ≡ 0
@@ -31,18 +24,6 @@ pub record SaysHeading (a b c d : Part) (h : Heading) : Type 0 where
   pub registration : c.before ≡ dot
   pub version : d.before ≡ dot
   pub same : heading_from a.text.now b.text.now c.text.now d.text.now ≡ h
-
-pub says-heading : (a b c d : Part) (h : Heading) → said (a ∷ b ∷ c ∷ d ∷ []) ≡ heading_elements h → SaysHeading a b c d h
-says-heading a b c d h e =
-    let one = said (a ∷ b ∷ c ∷ d ∷ []) in
-    let other = heading_elements h in
-    record {
-      flight = before-at 0 one other e;
-      day = before-at 1 one other e;
-      registration = before-at 2 one other e;
-      version = before-at 3 one other e;
-      same = same-heading a.text.now b.text.now c.text.now d.text.now h (text-at 0 one other e) (text-at 1 one other e) (text-at 2 one other e) (text-at 3 one other e);
-    }
 
 -- parts that say what a heading and a crew are
 pub record SaysCrew (a b c d e f : Part) (h : Heading) (cockpit cabin : ℕ) : Type 0 where

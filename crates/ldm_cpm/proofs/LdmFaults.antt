@@ -1,10 +1,10 @@
 -- Which lines may begin a load message.
-use Rattle.std.proofs.Common.{◌≡◌, ℕ, ◌+◌, ◌≤◌, List, [], ◌∷◌, ◌++◌, length, get_or, refl, sym, ap, subst, ◌∙◌, arith, length-append, append_assoc}
+use Rattle.std.proofs.Common.{◌≡◌, ℕ, ◌+◌, ◌≤◌, List, [], ◌∷◌, ◌++◌, length, get_or, refl, sym, ap, subst, arith, length-append, append_assoc}
 use Rattle.std.specs.Prelude.{◌≢◌, codes}
 use Rattle.std.proofs.lemmas.List.{append-nil}
 use Rattle.telex.specs.Elements.{line_text}
 use Rattle.text_lines.specs.Grammar.{Begins}
-use Rattle.ldm_cpm.specs.Messages.{Heading, IsSpelledHeading, OnBoard, LoadMessage, crew_elements, board_elements, ldm_lines, IsSpelledBoard, IsSpelledLdm}
+use Rattle.ldm_cpm.specs.Messages.{Heading, IsSpelledHeading, OnBoard, crew_elements, board_elements, IsSpelledBoard}
 use Rattle.ldm_cpm.specs.Reading.{AreLdmLines}
 
 abbrev nothing : OnBoard

@@ -1,9 +1,8 @@
 -- Reading a load message line by line.
-use Rattle.std.proofs.Common.{◌≡◌, ℕ, ◌≤◌, List, [], ◌∷◌, ◌++◌, length, get_or, refl, sym, ap, subst, ◌∙◌, arith, append_assoc}
+use Rattle.std.proofs.Common.{◌≡◌, ℕ, ◌≤◌, List, [], ◌∷◌, ◌++◌, get_or, refl, sym, ap, subst, ◌∙◌, arith, append_assoc}
 use Rattle.std.specs.Prelude.{◌≢◌, codes}
 use Rattle.telex.specs.Elements.{line_text}
 use Rattle.telex.specs.Lines.{PlacedLine}
-use Rattle.text_lines.specs.Grammar.{Begins}
 use Rattle.ldm_cpm.specs.Messages.{Heading, IsSpelledHeading, OnBoard, LoadMessage, crew_elements, board_elements, ldm_lines, IsSpelledBoard, IsSpelledLdm}
 use Rattle.ldm_cpm.specs.Reading.{FailsAt, AreLdmLines, texts}
 use Rattle.ldm_cpm.specs.Reading.FailsAt.{wrong_line, missing_line}
@@ -82,11 +81,6 @@ read-ldm l0 l1 l2 l3 title second third m e1 named e2 crew e3 board last =
     ap texts (e1 ∙ ap (λ ls. title ∷ ls) (e2 ∙ ap (λ ls. second ∷ ls) (e3 ∙ ap (λ ls. third ∷ ls) last)))
     ∙ ap (λ t. t ∷ second.text ∷ third.text ∷ []) named ∙ ap (λ t. codes "LDM" ∷ t ∷ third.text ∷ []) crew
     ∙ ap (λ t. codes "LDM" ∷ line_text (crew_elements m.heading m.cockpit m.cabin) ∷ t ∷ []) board
-
-pub three-lines : (l0 l1 l2 l3 : List PlacedLine) (title second third : PlacedLine) → l0 ≡ title ∷ l1 → l1 ≡ second ∷ l2 → l2 ≡ third ∷ l3 → l3 ≡ []
-    → l0 ≡ title ∷ second ∷ third ∷ []
-three-lines l0 l1 l2 l3 title second third e1 e2 e3 last =
-    e1 ∙ ap (λ ls. title ∷ ls) (e2 ∙ ap (λ ls. second ∷ ls) (e3 ∙ ap (λ ls. third ∷ ls) last))
 
 -- what the lines say is what was read
 pub back-ldm : (l0 l1 l2 l3 : List PlacedLine) (title second third : PlacedLine) (h : Heading) (crew : ℕ × ℕ) (board : OnBoard) (m : LoadMessage)

@@ -1,5 +1,5 @@
 -- Compartments with their masses, and the seats behind them, among the elements of a line.
-use Rattle.std.proofs.Common.{◌≡◌, ℕ, ◌+◌, ◌<◌, ◌≤◌, List, [], ◌∷◌, ◌++◌, length, get_or, drop, Option, Some, None, Result, Ok, Err, refl, sym, ap, ap₂, subst, ◌∙◌, arith, length-append, append_assoc}
+use Rattle.std.proofs.Common.{◌≡◌, ℕ, ◌+◌, ◌≤◌, List, [], ◌∷◌, ◌++◌, length, get_or, drop, Option, Some, None, Result, Ok, Err, refl, sym, ap, ap₂, subst, ◌∙◌, arith, append_assoc}
 use Rattle.std.specs.List.{flat_map}
 use Rattle.std.specs.Prelude.{◌≢◌, IfSome, IfNone, IfOk, IsSomeAnd, codes}
 use Rattle.std.proofs.lemmas.Option.{same_Some}
@@ -17,10 +17,6 @@ nothing = (0, [])
 
 pub not-PAX : (n : ℕ) → n ≤ 9 → number_text n ≢ codes "PAX"
 not-PAX n few e = omega (arith, ap length e, length-number 1 n (omega arith) (omega arith) (omega (arith, few)) (omega (arith, few)))
-
--- there are at least the two elements of the seats
-pub at-least-seats : (es : List Element) (more : List (ℕ × Kg)) (seats : List ℕ) → es ≡ flat_map load_elements more ++ seat_elements seats → 2 ≤ length es
-at-least-seats es more seats e = omega (arith, ap length e, length-append (flat_map load_elements more) (seat_elements seats))
 
 -- where `PAX` comes first, there is no compartment
 pub only-seats : (least : ℕ) (more : List (ℕ × Kg)) (seats : List ℕ) (one two : Element) (rest : List Element) → AreLoads least more

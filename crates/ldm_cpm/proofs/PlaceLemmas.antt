@@ -1,6 +1,6 @@
 -- Positions that were read: where their parts stand, and that each that is said is read.
 use Rattle.std.proofs.Common.{◌≡◌, ℕ, ◌+◌, List, [], ◌∷◌, ◌++◌, drop, Option, Some, None, refl, sym, ap, ap₂, subst, ◌∙◌}
-use Rattle.std.specs.Prelude.{IfSome, IsSomeAnd, codes}
+use Rattle.std.specs.Prelude.{IsSomeAnd, codes}
 use Rattle.telex.specs.Elements.{said}
 use Rattle.telex.specs.declared.reading.Part.{Part}
 use Rattle.ldm_cpm.specs.Messages.{Placing, content_elements, place_elements, IsSpelledContent, IsSpelledPlacing}

@@ -1,9 +1,7 @@
 -- Positions of a container message: their lines say which they are.
-use Rattle.std.proofs.Common.{◌≡◌, ℕ, ◌+◌, ◌≤◌, List, [], ◌∷◌, ◌++◌, length, map, get_or, drop, Option, Some, None, refl, sym, ap, ap₂, subst, ◌∙◌, arith, length-append, append_assoc}
-use Rattle.std.specs.Prelude.{◌≢◌, All, AllPairs, codes}
+use Rattle.std.proofs.Common.{◌≡◌, ℕ, ◌+◌, List, [], ◌∷◌, ◌++◌, length, get_or, drop, Option, Some, None, refl, sym, ap, ap₂, subst, ◌∙◌, arith, length-append, append_assoc}
+use Rattle.std.specs.Prelude.{◌≢◌, All}
 use Rattle.std.proofs.lemmas.List.Elements.{All-head, All-tail}
-use Rattle.mass_units.specs.Spelling.{number_text}
-use Rattle.mass_units.specs.declared.Kg.{Kg}
 use Rattle.mass_units.proofs.SpellingLemmas.{number_text-injective}
 use Rattle.hold_limits.proofs.SoundLemmas.{All-front, AllPairs-front}
 use Rattle.telex.specs.Elements.{Element, line_text, AreElements}

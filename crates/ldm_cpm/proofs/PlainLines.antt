@@ -1,5 +1,5 @@
 -- Lines of what is spelled: they have the elements that they are made of, and no byte in them ends a line.
-use Rattle.std.proofs.Common.{◌≡◌, ℕ, ◌+◌, ◌≤◌, true, false, List, [], ◌∷◌, ◌++◌, map, Some, None, Option, refl, sym, ap, arith}
+use Rattle.std.proofs.Common.{◌≡◌, ℕ, ◌+◌, ◌≤◌, true, false, List, [], ◌∷◌, ◌++◌, Some, None, Option, refl, arith}
 use Rattle.std.specs.List.{flat_map}
 use Rattle.std.specs.Prelude.{All, codes}
 use Rattle.std.proofs.lemmas.Bool.Decides.{nat_tests}
@@ -9,7 +9,7 @@ use Rattle.mass_units.specs.declared.Kg.{Kg}
 use Rattle.telex.specs.Parts.{is_separator}
 use Rattle.telex.specs.Lines.{IsPrintable}
 use Rattle.telex.specs.Text.{is_line_feed}
-use Rattle.telex.specs.Elements.{Element, dotted, slashed, line_text, IsUndivided, IsMarked, AreElements}
+use Rattle.telex.specs.Elements.{Element, dotted, slashed, line_text, IsMarked, AreElements}
 use Rattle.ldm_cpm.specs.Messages.{Heading, IsSpelledHeading, OnBoard, LoadMessage, Placing, HoldMessage, heading_elements, crew_elements, load_elements, seat_elements, board_elements, total, content_elements, place_elements, place_lines, ldm_lines, cpm_lines, IsSpelledBoard, IsSpelledLdm, IsSpelledContent, IsSpelledPlacing, IsSpelledCpm}
 use Rattle.ldm_cpm.proofs.LineFaults.{IsWhole}
 use Rattle.ldm_cpm.proofs.Plain.{IsPlain, plain-undivided, plain-flight, plain-day, plain-station, plain-registration, plain-version, plain-name, plain-id, plain-number}

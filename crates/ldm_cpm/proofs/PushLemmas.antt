@@ -1,7 +1,6 @@
 -- One more position behind those that were read.
 use Rattle.std.proofs.Common.{◌≡◌, ℕ, ◌+◌, ◌<◌, ◌≤◌, true, false, List, [], ◌∷◌, ◌++◌, length, map, refl, sym, ap, subst, ◌∙◌, arith, length-append}
 use Rattle.std.specs.List.{list_any}
-use Rattle.std.specs.Prelude.{IsTrue}
 use Rattle.std.proofs.lemmas.List.{get_or_at, length-map}
 use Rattle.telex.specs.Elements.{Element, said, line_text, AreElements}
 use Rattle.telex.specs.Items.{placed_part}

@@ -1,11 +1,9 @@
 -- The text of a spelled message is a telex.
-use Rattle.std.proofs.Common.{◌≤◌, List, ℕ, [], ◌∷◌, length, subst, sym, arith}
-use Rattle.std.specs.Prelude.{All, codes}
-use Rattle.std.proofs.lemmas.List.Elements.{All-nil, All-cons, All-head, All-tail}
-use Rattle.telex.specs.Elements.{line_text}
+use Rattle.std.proofs.Common.{◌≤◌, List, ℕ, length, subst, sym, arith}
+use Rattle.std.specs.Prelude.{All}
 use Rattle.telex.specs.Text.{IsTelex, longest_line}
 use Rattle.telex.proofs.WrittenLaws.{IsTelex-written}
-use Rattle.ldm_cpm.specs.Messages.{LoadMessage, Placing, HoldMessage, heading_elements, crew_elements, board_elements, place_elements, place_lines, ldm_lines, cpm_lines, ldm_text, cpm_text, IsSpelledLdm, IsSpelledPlacing, IsSpelledCpm}
+use Rattle.ldm_cpm.specs.Messages.{LoadMessage, HoldMessage, ldm_lines, cpm_lines, ldm_text, cpm_text, IsSpelledLdm, IsSpelledCpm}
 use Rattle.ldm_cpm.proofs.LineFaults.{text_of-ended}
 use Rattle.ldm_cpm.proofs.PlainLines.{each-ldm, each-place, each-cpm, printable-ldm, printable-cpm}
 use Rattle.ldm_cpm.proofs.ShortLines.{short-crew, short-heading, short-board, short-place}

@@ -50,10 +50,6 @@ pub pieces-3 : (old a b c last n1 n2 n3 : List ℕ) → n1 ≡ old ++ a → n2 �
     → n3 ++ last ≡ old ++ (a ++ (b ++ (c ++ last)))
 pieces-3 old a b c last n1 n2 n3 e1 e2 e3 = rw (e3, e2, e1) (simp append_assoc)
 
-pub pieces-7 : (old a b c d e f g last n1 n2 n3 n4 n5 n6 n7 : List ℕ) → n1 ≡ old ++ a → n2 ≡ n1 ++ b → n3 ≡ n2 ++ c → n4 ≡ n3 ++ d → n5 ≡ n4 ++ e → n6 ≡ n5 ++ f → n7 ≡ n6 ++ g
-    → n7 ++ last ≡ old ++ (a ++ (b ++ (c ++ (d ++ (e ++ (f ++ (g ++ last)))))))
-pieces-7 old a b c d e f g last n1 n2 n3 n4 n5 n6 n7 e1 e2 e3 e4 e5 e6 e7 = rw (e7, e6, e5, e4, e3, e2, e1) (simp append_assoc)
-
 -- the persons on board, piece by piece
 pub persons-pieces : (old destination n1 n2 n3 n4 n5 n6 n7 : List ℕ) (adults children infants : ℕ) → n1 ≡ old ++ codes "-" → n2 ≡ n1 ++ destination → n3 ≡ n2 ++ codes "."
     → n4 ≡ n3 ++ number_text adults → n5 ≡ n4 ++ codes "/" → n6 ≡ n5 ++ number_text children → n7 ≡ n6 ++ codes "/"

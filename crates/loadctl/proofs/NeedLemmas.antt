@@ -1,10 +1,9 @@
 -- What the arguments name that is made before a run.
-use Rattle.std.proofs.Common.{◌≡◌, ◌≢◌, ◌+◌, ◌≤◌, ℕ, List, Option, refl, sym, ap, ◌∙◌, subst, arith}
+use Rattle.std.proofs.Common.{◌≡◌, ◌≢◌, ℕ, List, Option, refl, sym, ap, ◌∙◌, subst, arith}
 use Rattle.std.specs.Prelude.{None, Some, IfSome, IfNone, IsSomeAnd, codes, ◌∷◌}
 use Rattle.std.specs.List.{slice_get}
 use Rattle.plan_commands.specs.Arguments.{Job, IsCommand}
-use Rattle.loadctl.specs.Desk.{AskForDesk}
-use Rattle.loadctl.specs.Serve.{AskForServe, AskForNoServe, KeepIn}
+use Rattle.loadctl.specs.Serve.{AskForNoServe, KeepIn}
 use Rattle.loadctl.specs.Serve.KeepIn.{one_desk, several}
 use Rattle.loadctl.specs.Asked.{AskForDeskOver, AskForServeOver}
 use Rattle.loadctl.specs.Needs.{AskForNothing, AreNeeded}

@@ -6,7 +6,7 @@ use Rattle.mass_units.specs.Spelling.{number_text, units_text, signed_text, inde
 use Rattle.mass_units.specs.declared.Ticks.{Ticks}
 use Rattle.mass_units.specs.declared.spelling.NumFault.{NumFault}
 use Rattle.mass_units.specs.declared.spelling.NumFault.TheVariants.{NotANumber, TooLarge}
-use Rattle.mass_units.proofs.SpellingLemmas.{unsigned_abs-neg, number_text-injective, units_text-injective, signed_text-injective, index_text-injective, number_text-no_minus, units_text-no_minus, with_sign-below, with_sign-minus, with_sign-plain, parts_of_units, units_from_parts, HasParts}
+use Rattle.mass_units.proofs.SpellingLemmas.{unsigned_abs-neg, number_text-injective, units_text-injective, signed_text-injective, index_text-injective, number_text-no_minus, units_text-no_minus, with_sign-below, with_sign-minus, with_sign-plain, units_from_parts}
 
 -- the number that a text was read as is each number that it spells
 pub same_number : (text : List ℕ) (value : ℕ) → ((m : ℕ) × (text ≡ number_text m) × (value ≡ min m (2 ^ 64 - 1))) → (n : ℕ) → n < 10 ^ 9 → text ≡ number_text n → value ≡ n
@@ -19,10 +19,6 @@ same_long_number text value read n small e =
     let same : read.0 ≡ n = number_text-injective read.0 n (sym read.1 ∙ e) in omega arith
 
 -- ---- units
-
--- a text that is no whole number, mark and decimals is no number of ticks
-pub no_units : (text : List ℕ) (at : ℕ) → at ≡ length text - 6 → ((n : ℕ) → HasParts text n → ⊥) → (n : ℕ) → text ≢ units_text n
-no_units text at is never n e = never n (parts_of_units text n e)
 
 pub units_read : (text whole decimals : List ℕ) (at w d : ℕ) → at + 6 ≡ length text → whole ≡ take at text → drop at text ≡ 46 ∷ decimals → ((m : ℕ) × (whole ≡ number_text m) × (w ≡ min m (2 ^ 64 - 1))) → AllDigits 10 decimals × (d ≡ min (digits_value 10 decimals) (2 ^ 64 - 1)) → (v : ℕ) → v ≡ min (min (w * 100000) (2 ^ 64 - 1) + d) (2 ^ 64 - 1) → (n : ℕ) × (text ≡ units_text n) × (v ≡ min n (2 ^ 64 - 1))
 units_read text whole decimals at w d len front back m digits v is =

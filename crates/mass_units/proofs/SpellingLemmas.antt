@@ -1,5 +1,5 @@
 -- Laws of the spellings: each text has one value, and no text holds a space or the end of a line.
-use Rattle.std.proofs.Common.{◌≡◌, ℕ, zero, suc, ◌+◌, ◌-◌, ◌*◌, ◌/◌, ◌%◌, ◌^◌, ◌<◌, ◌≤◌, ◌≢◌, inl, inr, List, [], ◌∷◌, ◌++◌, map, length, get_or, take, drop, refl, ap, sym, ◌∙◌, arith, append_assoc, append-nil, zero-add, length-append, ℤ, pos, negsuc, neg_ℤ, codes, All, eqb, false, Option, Some, None, IfSome, IfNone, min, unsigned_abs, ◌<ℤ◌, ◌≤ℤ◌, FitsSigned}
+use Rattle.std.proofs.Common.{◌≡◌, ℕ, zero, suc, ◌+◌, ◌-◌, ◌*◌, ◌/◌, ◌%◌, ◌^◌, ◌<◌, ◌≤◌, ◌≢◌, inl, inr, List, [], ◌∷◌, ◌++◌, map, length, get_or, take, drop, refl, ap, sym, ◌∙◌, arith, append_assoc, append-nil, zero-add, length-append, ℤ, pos, negsuc, neg_ℤ, codes, All, eqb, false, Option, Some, None, IfSome, IfNone, min, unsigned_abs, FitsSigned}
 use mir.Syntax.{Width}
 use mir.Val.{hbits}
 use Rattle.std.proofs.lemmas.Int.{ints}
@@ -137,9 +137,6 @@ plain_from_number text n e = rw e (length-number_text n, number_text-first n)
 
 pub digits_from_number : (text : List ℕ) (n : ℕ) → text ≡ number_text n → AllDigits 10 text
 digits_from_number text n e = rw e (AllDigits-number_text n)
-
-pub value_from_number : (text : List ℕ) (n : ℕ) → text ≡ number_text n → digits_value 10 text ≡ n
-value_from_number text n e = rw e (digits_value-number_text n)
 
 pub read_whole_found : (text : List ℕ) (r : Option ℕ) (most : ℕ) → HasPlainFront text → IfSome r (λ value. AllDigits 10 text × (value ≡ min (digits_value 10 text) most)) → IfSome r (λ value. (n : ℕ) × (text ≡ number_text n) × (value ≡ min n most))
 read_whole_found text None most plain read = tt
@@ -338,14 +335,6 @@ signed_text-decimal (negsuc n) small = ap (λ t. 45 ∷ t) (number_text-decimal 
 pub index_text-parts : (z : ℤ) → unsigned_abs z < 2 ^ 64 → index_text z ≡ sign_text z ++ (decimal (unsigned_abs z / 100000) ++ (codes "." ++ five_digits (unsigned_abs z % 100000)))
 unfolding index_text
 index_text-parts z small = ap (λ t. sign_text z ++ t) (units_text-is (unsigned_abs z) ∙ ap (λ t. t ++ (46 ∷ five_digits (unsigned_abs z % 100000))) (number_text-decimal (unsigned_abs z / 100000) (omega arith)))
-
-pub sign_text-below : (z : ℤ) → z <ℤ pos 0 → sign_text z ≡ codes "-"
-sign_text-below (pos n) below = absurd (omega (arith, ints))
-sign_text-below (negsuc n) below = refl
-
-pub sign_text-above : (z : ℤ) → pos 0 ≤ℤ z → sign_text z ≡ []
-sign_text-above (pos n) above = refl
-sign_text-above (negsuc n) above = absurd (omega (arith, ints))
 
 -- the absolute value of a number that fits
 pub unsigned_abs-fits : (w : Width) (z : ℤ) → FitsSigned w z → unsigned_abs z ≤ 2 ^ hbits w

@@ -1,32 +1,20 @@
 -- What is read from files.
-use Rattle.std.proofs.Common.{◌≡◌, ℕ, ◌<◌, ◌≤◌, List, length, Option, Some, None, Result, Ok, Err, sym, subst}
+use Rattle.std.proofs.Common.{◌≡◌, ℕ, ◌<◌, List, length, Option, Some, None, Result, Ok, Err, sym, subst}
 use Rattle.std.specs.Option.{IsSomeAnd}
 use Rattle.std.specs.Result.{IfErr, IsErrAnd}
 use Rattle.plan_commands.specs.declared.ending.Halt.{Halt}
 use Rattle.plan_commands.specs.declared.ending.Halt.TheVariants.{BadInput, ReadFault, NoMemory}
 use Rattle.plan_commands.specs.Halts.{IfBadInput}
 use Rattle.std.specs.Prelude.{IfSome}
-use Rattle.load_io.specs.Shelf.{Files, IsWhole, HasMoreThan}
+use Rattle.load_io.specs.Shelf.{Files, HasMoreThan}
 use Rattle.hold_limits.specs.Problem.{Problem}
-use Rattle.hold_limits.specs.Faults.{IsLawful}
-use Rattle.problem_text.specs.TaskText.{Spells}
 use Rattle.plan_commands.specs.ReplyText.{longest_task, longest_certificate, long_text}
-use Rattle.plan_commands.specs.Reply.{IsTaskIn, IsRefusal, Holds}
+use Rattle.plan_commands.specs.Reply.{IsRefusal, Holds}
 use Rattle.plan_commands.specs.NearReply.{IsCertificateRefusal}
 use Rattle.plan_commands.specs.AnyReply.{IsAnyRefusal}
 use Rattle.plan_commands.specs.AnyReply.IsAnyRefusal.{too_long as any_too_long}
 use Rattle.plan_commands.specs.Reply.IsRefusal.{too_long as task_too_long}
 use Rattle.plan_commands.specs.NearReply.IsCertificateRefusal.{too_long as certificate_too_long}
-
--- a lawful task that the bytes spell, as a reader returns it
-pub IsTaskIn-from_read : (bytes : List ℕ) (t : Problem) → length bytes ≤ longest_task → Spells bytes t → IsLawful t → IsTaskIn bytes t
-IsTaskIn-from_read bytes t short spelled lawful = record { short = short; spelled = spelled; hold = lawful.hold.right; task = lawful.right }
-
--- what holds of the bytes that were read holds of the file
-pub Holds-from_read : (exposed : Option Files) (name items bytes : List ℕ) (P : List ℕ → Type 0) → IsWhole exposed name items → bytes ≡ items → P bytes
-    → IfSome exposed (λ files. Holds files name P)
-Holds-from_read None name items bytes P there same holds = tt
-Holds-from_read (Some files) name items bytes P there same holds = subst (λ o. IsSomeAnd o P) (sym there) (subst P same holds)
 
 longer : (file : Option (List ℕ)) (most : ℕ) (P : List ℕ → Type 0) → IsSomeAnd file (λ bytes. most < length bytes)
     → ((bytes : List ℕ) → most < length bytes → P bytes) → IsSomeAnd file P

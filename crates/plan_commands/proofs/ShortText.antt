@@ -1,12 +1,12 @@
 -- The text of a near certificate fits a file.
-use Rattle.std.proofs.Common.{◌≡◌, ℕ, zero, suc, ◌+◌, ◌*◌, ◌/◌, ◌<◌, ◌≤◌, ◌^◌, ℤ, pos, negsuc, List, [], ◌∷◌, ◌++◌, length, get_or, map, zip, Option, Some, None, refl, sym, ap, subst, ◌∙◌, arith, unsigned_abs}
+use Rattle.std.proofs.Common.{◌≡◌, ℕ, suc, ◌+◌, ◌*◌, ◌/◌, ◌<◌, ◌≤◌, ◌^◌, ℤ, pos, negsuc, List, [], ◌∷◌, ◌++◌, length, map, zip, Option, Some, None, refl, sym, subst, arith, unsigned_abs}
 use Rattle.std.proofs.lemmas.Fmt.{length-decimal-le}
 use Rattle.std.proofs.lemmas.List.{length-append, length-map}
 use Rattle.std.proofs.lemmas.List.Elements.{All-nil, All-cons, All-head, All-tail, All-append, All-map, All-weaker}
 use Rattle.std.proofs.lemmas.Option.{slice_get_within, get_or_from_slice_get}
 use Rattle.std.specs.Prelude.{All, IfSome, codes, slice_get}
 use Rattle.std.specs.Option.{option_map_or}
-use Rattle.mass_units.specs.Spelling.{number_text, index_text, signed_text, units_text, five_digits, sign_text}
+use Rattle.mass_units.specs.Spelling.{number_text, index_text, signed_text, units_text}
 use Rattle.mass_units.proofs.SpellingLemmas.{number_text-decimal, length-units_text}
 use Rattle.hold_parts.specs.Spellings.{IsName, IsUldId}
 use Rattle.hold_parts.specs.declared.parts.Item.{Item}
@@ -16,7 +16,7 @@ use Rattle.hold_limits.specs.Layout.{Layout, name_at}
 use Rattle.text_lines.specs.Lines.{line_of, text_of}
 use Rattle.hold_limits.specs.BranchOrder.{ordered}
 use Rattle.hold_limits.specs.Problem.{Problem}
-use Rattle.hold_limits.specs.Placement.{IsAdmissible, Placed, placed, take_off_index, hold_index, distance, lateral_difference}
+use Rattle.hold_limits.specs.Placement.{IsAdmissible, placed, take_off_index, hold_index, distance, lateral_difference}
 use Rattle.hold_limits.specs.Faults.{IsLawful}
 use Rattle.hold_limits.proofs.DistanceLemmas.{distance_to-bounded}
 use Rattle.hold_limits.proofs.LawfulBounds.{lawful-bounds}

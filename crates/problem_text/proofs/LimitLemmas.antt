@@ -1,7 +1,7 @@
 -- lines that name positions
-use Rattle.std.proofs.Common.{◌≡◌, ◌≢◌, ℕ, ◌≤◌, Bool, true, false, eqb, ◌++◌, ◌∷◌, List, [], length, map, refl, sym, ◌∙◌, ap, arith, All, codes, lit<}
-use Rattle.std.proofs.lemmas.List.{append-nil, append_cancel_left}
-use Rattle.std.proofs.lemmas.List.Elements.{All-head, All-tail, All-cons, All-nil, All-same}
+use Rattle.std.proofs.Common.{◌≡◌, ◌≢◌, ℕ, ◌≤◌, Bool, true, false, eqb, ◌++◌, ◌∷◌, List, [], length, refl, sym, ◌∙◌, ap, arith, codes, lit<}
+use Rattle.std.proofs.lemmas.List.{append_cancel_left}
+use Rattle.std.proofs.lemmas.List.Elements.{All-same}
 use Rattle.mass_units.specs.Spelling.{number_text}
 use Rattle.mass_units.proofs.SpellingLemmas.{number_text-avoids, number_text-injective}
 use Rattle.hold_parts.specs.declared.parts.Position.{Position}
@@ -12,13 +12,12 @@ use Rattle.text_lines.specs.Cuts.{Avoids}
 use Rattle.text_lines.specs.WordRuns.{run_text, name_text}
 use Rattle.problem_text.specs.TaskText.{end_word, side_word, exclude_line, combined_line, cumulative_line, side_line, loose_line, IsSpelledExclude, IsSpelledCombined, IsSpelledCumulative, IsSpelledSide, IsSpelledLoose}
 use Rattle.text_lines.specs.Names.{IsNamed}
-use Rattle.text_lines.specs.Lines.{line_of}
 use Rattle.hold_limits.specs.Layout.{name_at}
 use Rattle.text_lines.proofs.CutLemmas.{cut_once, split_once_again}
 use Rattle.text_lines.proofs.WordLemmas.{avoids-append, avoids-spaced, plain_word}
 use Rattle.text_lines.proofs.NameLemmas.{name_at-avoids, named_once}
 pub use Rattle.text_lines.proofs.NameRuns.{AreClear, names_are_read, names_avoid, line_of-names}
-use Rattle.text_lines.proofs.RunLemmas.{AreRead, run_text-begins, run_once}
+use Rattle.text_lines.proofs.RunLemmas.{run_text-begins, run_once}
 
 -- ---- a combined line
 

@@ -3,11 +3,7 @@ use Rattle.std.proofs.Common.{◌≡◌, ℕ, ◌+◌, ◌<◌, ◌≤◌, ℤ, 
 use Rattle.std.proofs.lemmas.List.{append_assoc}
 use Rattle.hold_limits.specs.Problem.{Problem}
 use Rattle.hold_parts.specs.declared.parts.Position.{Position}
-use Rattle.hold_parts.specs.declared.parts.Combined.{Combined}
-use Rattle.hold_parts.specs.declared.parts.Cumulative.{Cumulative}
 use Rattle.hold_parts.specs.declared.parts.Lateral.{Lateral}
-use Rattle.hold_parts.specs.declared.parts.Item.{Item}
-use Rattle.hold_parts.specs.declared.parts.Loose.{Loose}
 use Rattle.problem_text.specs.TaskText.{position_line, position_word, exclude_line, combined_line, cumulative_line, side_line, lateral_line, lateral_lines, item_line, loose_line, base_line, IsSpelledPosition, IsSpelledExclude, IsSpelledCombined, IsSpelledCumulative, IsSpelledSide, IsSpelledItem, IsSpelledLoose}
 use Rattle.problem_text.specs.Grammar.{last_part, loose_part, item_part, lateral_part, cumulative_part, combined_part, limit_part}
 use Rattle.text_lines.proofs.Rests.{HasOther}

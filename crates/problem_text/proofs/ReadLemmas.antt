@@ -1,8 +1,8 @@
 -- what the steps of the reader make of a text
-use Rattle.std.proofs.Common.{◌≡◌, ℕ, Bool, ◌+◌, ◌++◌, ◌∷◌, List, [], length, map, refl, sym, ◌∙◌, ap, subst, arith, All, Option, Some, None, IfSome, option_map, codes, lit<}
+use Rattle.std.proofs.Common.{◌≡◌, ℕ, Bool, ◌+◌, ◌++◌, ◌∷◌, List, [], map, refl, sym, ◌∙◌, ap, subst, arith, All, Option, Some, None, IfSome, option_map, lit<}
 use Rattle.std.proofs.lemmas.List.{append_assoc, length-append, length-map}
 use Rattle.std.proofs.lemmas.List.Elements.{All-nil}
-use Rattle.mass_units.specs.Spelling.{IsIndex, IsNumber}
+use Rattle.mass_units.specs.Spelling.{IsNumber}
 use Rattle.hold_limits.specs.Problem.{Problem}
 use Rattle.hold_parts.specs.declared.parts.Position.{Position}
 use Rattle.hold_parts.specs.declared.parts.Combined.{Combined}
@@ -15,17 +15,17 @@ use Rattle.text_lines.specs.declared.lines.Lines.{Lines as Point}
 use Rattle.text_lines.specs.declared.fault.LineFault.{LineFault}
 use Rattle.text_lines.proofs.SectionLemmas.{text_of-append}
 use Rattle.text_lines.proofs.PartSteps.{IsAny, PartBetween, section_part, whole_part}
-use Rattle.text_lines.proofs.Rests.{Rest, FailsAt, behind, Leads, then, SaysOne, StartsWithOne, past_one, fails_at_one}
+use Rattle.text_lines.proofs.Rests.{Rest, FailsAt, behind, Leads, then, StartsWithOne, fails_at_one}
 use Rattle.text_lines.proofs.RunsOfLines.{StartsWithRun, past_run}
 use Rattle.problem_text.proofs.SmallerTexts.{Holds, fails_within, read_within}
-use Rattle.problem_text.specs.TaskText.{exclude_line, combined_line, cumulative_line, side_line, lateral_line, lateral_lines, item_line, loose_line, IsSpelledPosition, IsSpelledExclude, IsSpelledCombined, IsSpelledCumulative, IsSpelledSide, IsSpelledLateral, IsSpelledItem, IsSpelledLoose, IsSpelled}
+use Rattle.problem_text.specs.TaskText.{exclude_line, combined_line, cumulative_line, side_line, lateral_line, lateral_lines, item_line, IsSpelledPosition, IsSpelledExclude, IsSpelledCombined, IsSpelledCumulative, IsSpelledSide, IsSpelledLateral, IsSpelledItem, IsSpelledLoose}
 use Rattle.problem_text.specs.Reading.{IsLateralLine}
 use Rattle.problem_text.specs.PositionNumbers.{keep_pair, keep_combined, keep_cumulative, keep_lateral, keep_loose, keep_problem}
 use Rattle.problem_text.specs.Parts.{IsLateral, AreSections, AreIndices, last_lines, problem_of_parts}
 use Rattle.problem_text.specs.Parts.IsLateral.{absent, present}
-use Rattle.problem_text.specs.Grammar.{version_of, item_part, lateral_part, limit_part, IsTaskOf, AreLateral, AreLast}
+use Rattle.problem_text.specs.Grammar.{version_of, item_part, limit_part, IsTaskOf, AreLast}
 use Rattle.problem_text.specs.declared.parts.Version.{Version}
-use Rattle.problem_text.specs.declared.parts.Version.TheVariants.{One, Two}
+use Rattle.problem_text.specs.declared.parts.Version.TheVariants.{Two}
 use Rattle.problem_text.specs.declared.parts.Sections.{Sections}
 use Rattle.problem_text.specs.declared.parts.Parts.{Parts}
 use Rattle.problem_text.proofs.LineLemmas.{lateral_avoids, lateral_once}

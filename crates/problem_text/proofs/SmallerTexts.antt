@@ -1,9 +1,8 @@
 -- the rest of a text as a text of its own
-use Rattle.std.proofs.Common.{◌≡◌, ℕ, ◌++◌, List, refl, sym, ◌∙◌, ap, subst}
+use Rattle.std.proofs.Common.{◌≡◌, ℕ, ◌++◌, List, sym, ◌∙◌, ap}
 use Rattle.std.proofs.lemmas.List.Elements.{All-same}
 use Rattle.text_lines.specs.Cuts.{Avoids}
 use Rattle.text_lines.specs.Lines.{text_of}
-use Rattle.text_lines.specs.Stated.{AreLinesOf}
 use Rattle.text_lines.specs.declared.lines.Lines.{Lines as Point}
 use Rattle.text_lines.specs.declared.fault.LineFault.{LineFault}
 use Rattle.text_lines.proofs.GrammarLemmas.{fails_same}

@@ -1,8 +1,8 @@
 -- the lines of a task, part by part
-use Rattle.std.proofs.Common.{◌≡◌, ◌≢◌, ℕ, ◌+◌, ◌<◌, ℤ, Bool, ◌++◌, ◌∷◌, List, [], map, length, get_or, refl, sym, ◌∙◌, ap, subst, arith, All, Option, Some, None, IfSome, codes, lit<}
+use Rattle.std.proofs.Common.{◌≡◌, ◌≢◌, ℕ, ◌+◌, ◌<◌, ℤ, ◌++◌, ◌∷◌, List, [], map, length, get_or, refl, sym, ◌∙◌, ap, subst, arith, All, Option, Some, None, IfSome, codes, lit<}
 use Rattle.std.proofs.lemmas.List.{append_assoc}
 use Rattle.std.proofs.lemmas.List.Elements.{All-nil, All-cons, All-append, All-map, All-weaker}
-use Rattle.mass_units.specs.Spelling.{IsIndex, IsNumber}
+use Rattle.mass_units.specs.Spelling.{IsIndex}
 use Rattle.hold_limits.specs.Layout.{Layout}
 use Rattle.hold_limits.specs.Problem.{Problem}
 use Rattle.hold_parts.specs.declared.parts.Position.{Position}
@@ -18,7 +18,7 @@ use Rattle.text_lines.specs.declared.lines.Lines.{Lines as Point}
 use Rattle.text_lines.proofs.WordLemmas.{plain_word}
 use Rattle.text_lines.proofs.TextCuts.{AreLines}
 use Rattle.text_lines.proofs.PartSteps.{IsAny, PartBetween}
-use Rattle.text_lines.proofs.Rests.{Rest, behind, Leads, then, past, IsLineKind, HasOther, stops-at, StartsWithOne, SaysOne, past_one}
+use Rattle.text_lines.proofs.Rests.{Rest, behind, Leads, then, past, stops-at, StartsWithOne, SaysOne, past_one}
 use Rattle.text_lines.proofs.RunsOfLines.{StartsWithRun, past_run, IsLast}
 use Rattle.text_lines.proofs.RunOfLines.{section_once}
 use Rattle.text_lines.proofs.OneReading.{IsReadOnce, one_then, run_then, last_then}

@@ -1,13 +1,10 @@
 -- texts that grow by one entry after another
-use Rattle.std.proofs.Common.{◌≡◌, ℕ, ◌+◌, ◌<◌, Bool, Some, List, [], ◌∷◌, ◌++◌, length, map, take, get_or, subst, refl, ap, sym, ◌∙◌}
-use Rattle.std.proofs.lemmas.List.{append-nil, append_assoc, take_more}
-use Rattle.std.proofs.lemmas.List.Elements.{All-push}
-use Rattle.std.specs.Prelude.{All}
+use Rattle.std.proofs.Common.{◌≡◌, ℕ, ◌+◌, Bool, Some, List, [], ◌∷◌, ◌++◌, map, ap, sym, ◌∙◌}
+use Rattle.std.proofs.lemmas.List.{append_assoc}
 use Rattle.hold_parts.specs.declared.parts.Position.{Position}
 use Rattle.hold_parts.specs.declared.parts.Lateral.{Lateral}
 use Rattle.problem_text.specs.TaskText.{side_line, lateral_line, lateral_lines}
 use Rattle.text_lines.specs.Lines.{text_of}
-use Rattle.text_lines.specs.WordRuns.{run_text}
 use Rattle.text_lines.proofs.SectionLemmas.{text_of-append}
 
 -- a text of some lines that grew by those of others

@@ -1,11 +1,11 @@
 -- A line has the elements that its text is made of, and no others.
-use Rattle.std.proofs.Common.{◌≡◌, ℕ, ◌+◌, true, false, List, [], ◌∷◌, ◌++◌, length, map, refl, sym, ap, subst, ◌∙◌}
+use Rattle.std.proofs.Common.{◌≡◌, ℕ, ◌+◌, List, [], ◌∷◌, ◌++◌, length, map, refl, sym, ap, ◌∙◌}
 use Rattle.std.specs.List.{flat_map}
 use Rattle.std.specs.Prelude.{All}
 use Rattle.std.proofs.lemmas.List.{append-nil}
 use Rattle.std.proofs.lemmas.List.Elements.{All-head, All-tail}
 use Rattle.telex.specs.Lines.{PlacedLine}
-use Rattle.telex.specs.Parts.{PlacedPart, is_separator, parts_from, parts_of, joined_parts, ArePartsOf}
+use Rattle.telex.specs.Parts.{PlacedPart, parts_from, parts_of, joined_parts}
 use Rattle.telex.specs.Elements.{Element, line_text, said, elements_of, IsUndivided, IsMarked, AreElements}
 use Rattle.telex.specs.Items.{placed_part}
 use Rattle.telex.specs.declared.reading.Part.{Part}

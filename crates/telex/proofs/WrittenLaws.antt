@@ -6,24 +6,17 @@ use Rattle.std.proofs.lemmas.Bool.{le-ltb}
 use Rattle.std.proofs.lemmas.Bool.Decides.{nat_tests}
 use Rattle.std.proofs.lemmas.List.{append-nil, get_or_at, get_or-append-add}
 use Rattle.std.proofs.lemmas.List.Elements.{All-nil, All-head, All-tail, All-append, All-push, All-weaker}
-use Rattle.std.proofs.lemmas.List.Splits.{slice_split_at, length-slice_split}
+use Rattle.std.proofs.lemmas.List.Splits.{slice_split_at}
 use Rattle.std.proofs.lemmas.List.Sums.{position_or_len_is}
 use Rattle.std.proofs.lemmas.Option.{slice_get-get_or, slice_get_within, get_or_from_slice_get}
 use Rattle.telex.specs.Text.{line_feed, longest_line, is_foreign, is_line_feed, is_too_long, pieces, IsEnded, IsTelex}
-use Rattle.telex.specs.Lines.{but_last, placed_from, lines_from, lines_of, IsPrintable}
+use Rattle.telex.specs.Lines.{but_last, placed_from, lines_of, IsPrintable}
 use Rattle.telex.proofs.Cuts.{Fails}
-use Rattle.telex.proofs.LineLaws.{but_last-cons, but_last-push}
+use Rattle.telex.proofs.LineLaws.{but_last-push}
 
 -- a line with its line feed
 abbrev pub ended : List ℕ → List ℕ
 ended line = line ++ line_feed ∷ []
-
--- the line that a text begins with is the first of its lines
-pub lines_from-cut : (at : ℕ) (line rest : List ℕ) → All (Fails is_line_feed) line
-    → lines_from at (line ++ line_feed ∷ rest) ≡ record { text = line; at = at } ∷ lines_from (at + length line + 1) rest
-lines_from-cut at line rest clean =
-    ap (λ ps. placed_from at (but_last ps)) (slice_split_at is_line_feed line line_feed rest clean refl)
-    ∙ ap (placed_from at) (but_last-cons line (pieces rest) (omega (arith, length-slice_split is_line_feed rest)))
 
 pieces-written : (lines : List (List ℕ)) → All (All (Fails is_line_feed)) lines → pieces (flat_map ended lines) ≡ lines ++ [] ∷ []
 pieces-written [] clean = refl

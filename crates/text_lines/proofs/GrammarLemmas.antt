@@ -1,17 +1,15 @@
 -- how a refusal further on in a text is a refusal of the text from an earlier point on
-use Rattle.std.proofs.Common.{◌≡◌, ℕ, ◌+◌, ◌++◌, ◌∷◌, List, [], length, map, refl, sym, ◌∙◌, ap, subst, arith, All}
-use Rattle.std.proofs.lemmas.List.{append_assoc, length-append, length-map}
+use Rattle.std.proofs.Common.{◌≡◌, ℕ, ◌+◌, ◌++◌, ◌∷◌, List, [], length, refl, sym, ◌∙◌, ap, subst, arith}
+use Rattle.std.proofs.lemmas.List.{append_assoc, length-append}
 use Rattle.text_lines.specs.Cuts.{Avoids}
 use Rattle.text_lines.specs.Lines.{text_of}
-use Rattle.text_lines.specs.Grammar.{HasOne, HasRun, Begins, Fails}
+use Rattle.text_lines.specs.Grammar.{Begins, Fails}
 use Rattle.text_lines.specs.Grammar.Fails.{wrong_line, more_bytes, early_end, no_memory}
-use Rattle.text_lines.specs.Sections.{IsSection, HasNoneAhead}
-use Rattle.text_lines.specs.Lines.{IsStopped}
-use Rattle.text_lines.specs.Lines.IsStopped.{at_line, at_end}
+use Rattle.text_lines.specs.Sections.{HasNoneAhead}
 use Rattle.text_lines.specs.declared.fault.LineFault.{LineFault}
 use Rattle.text_lines.specs.declared.fault.LineFault.TheVariants.{Line}
 use Rattle.text_lines.proofs.SectionLemmas.{text_of-append}
-use Rattle.text_lines.proofs.RunOfLines.{Stops, section_once}
+use Rattle.text_lines.proofs.RunOfLines.{Stops}
 
 abbrev Lines : Type 0
 Lines = List (List ℕ)
@@ -91,48 +89,3 @@ fails_same forth back text number _ no_memory = no_memory
 
 pub stops_from : {X : Type 0} (line : X → List ℕ) (IsRight : X → Type 0) → ((x : X) → IsRight x → Avoids 10 (line x)) → (text : List ℕ) (lines : Lines) → HasNoneAhead line IsRight text → HasFirst text lines → Stops line IsRight lines
 stops_from line P avoids text lines none first = λ x more p e. let found = first (line x) more e in none (line x) found.0 found.1 (avoids x p) x p refl
-
--- a kind of line that is read in one way only, and that no line of what follows is of
-pub record IsReadOnce {X : Type 0} (line : X → List ℕ) (IsRight : X → Type 0) (Follows : List X → Lines → Type 0) : Type 0 where
-  pub once : (x y : X) → IsRight x → IsRight y → line x ≡ line y → x ≡ y
-  pub avoids : (x : X) → IsRight x → Avoids 10 (line x)
-  pub stops : (xs : List X) (more : Lines) → All IsRight xs → Follows xs more → Stops line IsRight more
-
-pub fails_before_run : {X : Type 0} (line : X → List ℕ) (IsRight : X → Type 0) (keep : X → X) (Follows : List X → Lines → Type 0) (before after : List ℕ) (number next : ℕ) (got : List X) (fault : LineFault) → IsReadOnce line IsRight Follows → (s : IsSection line IsRight keep before after number next got) → Fails (Follows s.said) after next fault → Fails (HasRun line IsRight Follows) before number fault
-fails_before_run {X} line P keep Follows before after number next got fault kind s fails =
-    let step : IsStep (HasRun line P Follows) (Follows s.said) (map line s.said) after = record {
-      forth = λ more follows. record { said = s.said; right = s.right; more = more; follows = follows; are = refl };
-      back = λ more first run.
-          let stop = stops_from line P kind.avoids after more s.stops first in
-          let same = section_once line P kind.once s.said run.said more run.more s.right run.right stop (kind.stops run.said run.more run.right run.follows) run.are in
-          let Of : List X → Type 0 = λ xs. Follows xs more in
-          subst Of (sym same.0) (subst (Follows run.said) (sym same.1) run.follows);
-    } in
-    let long : length (map line s.said) ≡ length s.said = length-map s.said line in
-    let new = s.counted in
-    fails_earlier (HasRun line P Follows) (Follows s.said) (map line s.said) before after number next fault step s.read (omega (arith, long, new)) fails
-
--- ---- past one line, and at one
-
-pub fails_before_line : {X : Type 0} (line : X → List ℕ) (IsRight : X → Type 0) (Follows : X → Lines → Type 0) (x : X) (before after : List ℕ) (number next : ℕ) (fault : LineFault) → ((y : X) → IsRight y → line x ≡ line y → x ≡ y) → IsRight x → before ≡ line x ++ 10 ∷ after → next ≡ number + 1 → Fails (Follows x) after next fault → Fails (HasOne line IsRight Follows) before number fault
-fails_before_line {X} line P Follows x before after number next fault once right e counted fails =
-    let step : IsStep (HasOne line P Follows) (Follows x) (line x ∷ []) after = record {
-      forth = λ more follows. record { said = x; right = right; more = more; follows = follows; are = refl };
-      back = λ more first one.
-          let are : line x ∷ more ≡ line one.said ∷ one.more = one.are in
-          let head : line x ≡ line one.said = cc in
-          let tail : more ≡ one.more = cc in
-          let Of : X → Type 0 = λ y. Follows y more in
-          subst Of (sym (once one.said one.right head)) (subst (Follows one.said) (sym tail) one.follows);
-    } in
-    fails_earlier (HasOne line P Follows) (Follows x) (line x ∷ []) before after number next fault step (e ∙ sym (append_assoc (line x) (10 ∷ []) after)) (omega (arith, counted)) fails
-
--- the reader stopped at the first line, or there is none
-pub fails_at_line : {X : Type 0} (line : X → List ℕ) (IsRight : X → Type 0) (Follows : X → Lines → Type 0) (IsExpected : List ℕ → Type 0) (text : List ℕ) (number : ℕ) (fault : LineFault) → Begins (HasOne line IsRight Follows) [] → ((x : X) → IsRight x → IsExpected (line x)) → IsStopped text number IsExpected fault → Fails (HasOne line IsRight Follows) text number fault
-fails_at_line line P Follows E text number _ some expected (at_line first after e clear wrong) =
-    let At : ℕ → Type 0 = λ n. Fails (HasOne line P Follows) text number (Line n) in
-    subst At (omega arith)
-    (wrong_line [] first after e clear some
-    (λ b. let one = b.kind in let are : first ∷ b.more ≡ line one.said ∷ one.more = one.are in let head : line one.said ≡ first = cc in wrong (subst E head (expected one.said one.right))))
-fails_at_line line P Follows E text number _ some expected (at_end clear) =
-    early_end [] text refl clear some (λ one. let none : [] ≡ line one.said ∷ one.more = one.are in absurd (cc))

@@ -1,7 +1,7 @@
 -- Each text is its lines, and a rest that no line feed ends, in one way alone.
 use Rattle.std.proofs.Common.{◌≡◌, ◌⊎◌, ⊎_elim, ℕ, eqb, false, ◌++◌, ◌∷◌, List, [], refl, sym, ◌∙◌, ap, subst, inl, inr, All}
 use Rattle.std.proofs.lemmas.Bool.{cases_Bool, eqb-true}
-use Rattle.std.proofs.lemmas.List.{append_assoc, append-nil}
+use Rattle.std.proofs.lemmas.List.{append_assoc}
 use Rattle.std.proofs.lemmas.List.Elements.{All-head, All-tail, All-nil, All-cons}
 use Rattle.text_lines.specs.Cuts.{Avoids}
 use Rattle.text_lines.specs.Lines.{text_of}
@@ -56,11 +56,6 @@ cut_text (b ∷ text) =
 
 -- One way -----------------------------------------------------------------------------------------
 
-pub some_text : (zs : List (List ℕ)) (rest : List ℕ) → [] ≡ text_of zs ++ rest → zs ≡ []
-some_text [] rest e = refl
-some_text ([] ∷ zs) rest e = absurd (cc)
-some_text ((b ∷ z) ∷ zs) rest e = absurd (cc)
-
 -- of two cuts of a text into first lines and a rest, one goes on where the other stops
 pub compare : (xs ys : List (List ℕ)) (rest other : List ℕ) → AreLines xs → AreLines ys → text_of xs ++ rest ≡ text_of ys ++ other
     → ((zs : List (List ℕ)) × (ys ≡ xs ++ zs) × (rest ≡ text_of zs ++ other)) ⊎ ((zs : List (List ℕ)) × (xs ≡ ys ++ zs) × (other ≡ text_of zs ++ rest))
@@ -73,23 +68,6 @@ compare (x ∷ xs) (y ∷ ys) rest other p q e =
     (λ (h : (zs : List (List ℕ)) × (ys ≡ xs ++ zs) × (rest ≡ text_of zs ++ other)). inl (h.0, (λ i. sym cut.0 i ∷ h.1 i), h.2))
     (λ (h : (zs : List (List ℕ)) × (xs ≡ ys ++ zs) × (other ≡ text_of zs ++ rest)). inr (h.0, (λ i. cut.0 i ∷ h.1 i), h.2))
     (compare xs ys rest other (All-tail (Avoids 10) x xs p) (All-tail (Avoids 10) y ys q) cut.1)
-
--- lines that are the whole text go on where any other first lines of it stop
-pub whole_goes_on : (xs ys : List (List ℕ)) (other : List ℕ) → AreLines xs → AreLines ys → text_of xs ≡ text_of ys ++ other → (zs : List (List ℕ)) × (xs ≡ ys ++ zs) × (other ≡ text_of zs)
-whole_goes_on xs ys other p q e =
-    ⊎_elim
-    (λ (h : (zs : List (List ℕ)) × (ys ≡ xs ++ zs) × ([] ≡ text_of zs ++ other)).
-    let none = some_text h.0 other h.2 in
-    let left : other ≡ [] = sym (h.2 ∙ ap (λ zs. text_of zs ++ other) none) in
-    ([], sym (append-nil ys ∙ h.1 ∙ ap (λ zs. xs ++ zs) none ∙ append-nil xs), left))
-    (λ (h : (zs : List (List ℕ)) × (xs ≡ ys ++ zs) × (other ≡ text_of zs ++ [])). (h.0, h.1, h.2 ∙ append-nil (text_of h.0)))
-    (compare xs ys [] other p q (append-nil (text_of xs) ∙ e))
-
-pub whole_once : (xs ys : List (List ℕ)) → AreLines xs → AreLines ys → text_of xs ≡ text_of ys → xs ≡ ys
-whole_once xs ys p q e =
-    let more = whole_goes_on xs ys [] p q (e ∙ sym (append-nil (text_of ys))) in
-    let none = some_text more.0 [] (more.2 ∙ sym (append-nil (text_of more.0))) in
-    more.1 ∙ ap (λ zs. ys ++ zs) none ∙ append-nil ys
 
 -- one more line at the end
 pub joined : (xs : List (List ℕ)) (x rest : List ℕ) → text_of (xs ++ x ∷ []) ++ rest ≡ text_of xs ++ (x ++ 10 ∷ rest)

@@ -1,25 +1,9 @@
--- which lines may come from some point of a text on, and why a text does not go on with such lines
-use Rattle.std.specs.Prelude.{◌≡◌, ℕ, ◌+◌, List, [], ◌∷◌, ◌++◌, length, map, All}
+-- why a text does not go on with lines of a kind
+use Rattle.std.specs.Prelude.{◌≡◌, ℕ, ◌+◌, List, [], ◌∷◌, ◌++◌, length}
 use Rattle.text_lines.specs.Cuts.{Avoids}
 use Rattle.text_lines.specs.Lines.{text_of}
 use Rattle.text_lines.specs.declared.fault.LineFault.{LineFault}
 use Rattle.text_lines.specs.declared.fault.LineFault.TheVariants.{Line, NoEnd, NoMemory}
-
--- one line that states an entry of its kind, and then lines that may follow that entry
-pub record HasOne {X : Type 0} (line : X → List ℕ) (IsRight : X → Type 0) (Follows : X → List (List ℕ) → Type 0) (lines : List (List ℕ)) : Type 0 where
-  pub said : X
-  pub right : IsRight said
-  pub more : List (List ℕ)
-  pub follows : Follows said more
-  pub are : lines ≡ line said ∷ more
-
--- any number of lines that state entries of one kind, and then lines that may follow those entries
-pub record HasRun {X : Type 0} (line : X → List ℕ) (IsRight : X → Type 0) (Follows : List X → List (List ℕ) → Type 0) (lines : List (List ℕ)) : Type 0 where
-  pub said : List X
-  pub right : All IsRight said
-  pub more : List (List ℕ)
-  pub follows : Follows said more
-  pub are : lines ≡ map line said ++ more
 
 -- lines that go on with these make lines of the kind
 pub record Begins (IsKind : List (List ℕ) → Type 0) (done : List (List ℕ)) : Type 0 where

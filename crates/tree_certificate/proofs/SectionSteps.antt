@@ -3,20 +3,14 @@ use Rattle.std.proofs.Common.{◌≡◌, ℕ, ◌+◌, ◌<◌, ◌++◌, ◌∷
 use Rattle.std.proofs.lemmas.List.{append_assoc, append-nil, length-append, length-map}
 use Rattle.std.proofs.lemmas.List.Elements.{All-nil, All-push}
 use Rattle.hold_parts.specs.declared.parts.Position.{Position}
-use Rattle.text_lines.specs.Cuts.{Avoids}
 use Rattle.text_lines.specs.Lines.{text_of}
-use Rattle.text_lines.specs.Sections.{HasNoneAhead, IsSection}
-use Rattle.text_lines.proofs.CutLemmas.{split_once_again, has_mark}
-use Rattle.text_lines.proofs.SectionLemmas.{text_of-append, text_of-push, map-push}
+use Rattle.text_lines.specs.Sections.{IsSection}
+use Rattle.text_lines.proofs.SectionLemmas.{text_of-append, map-push}
 use Rattle.tree_certificate.specs.declared.parts.Operation.{Operation}
 use Rattle.tree_certificate.specs.declared.parts.Sibling.{Sibling}
 use Rattle.tree_certificate.specs.Listed.{ListedSibling, listed_sibling}
 use Rattle.tree_certificate.specs.TreeText.{least_line, sibling_lines, operation_line, IsSpelledLeast, IsSpelledOperation, IsSpelledSibling}
 use Rattle.tree_certificate.specs.Reading.{IsSibling, HasNoOperationAhead, HasNoLeastAhead, AreSiblings}
-
--- the lines of one sibling, before further ones
-one_sibling : (ps : List Position) (x : ListedSibling) (xs : List ListedSibling) → sibling_lines ps (x ∷ xs) ≡ sibling_lines ps (x ∷ []) ++ sibling_lines ps xs
-one_sibling ps x xs = ap (λ (more : List (List ℕ)). least_line ps (x.rank, x.position) ∷ more) (ap (λ (own : List (List ℕ)). own ++ sibling_lines ps xs) (sym (append-nil (map (operation_line ps) x.operations))))
 
 pub sibling_lines-append : (ps : List Position) (xs ys : List ListedSibling) → sibling_lines ps (xs ++ ys) ≡ sibling_lines ps xs ++ sibling_lines ps ys
 sibling_lines-append ps [] ys = refl

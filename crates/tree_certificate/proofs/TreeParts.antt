@@ -1,7 +1,7 @@
 -- the lines of a certificate of trees after its first, part by part
-use Rattle.std.proofs.Common.{◌≡◌, ℕ, ◌+◌, ◌++◌, ◌∷◌, List, [], length, map, refl, sym, ◌∙◌, ap, All, codes, lit<}
+use Rattle.std.proofs.Common.{◌≡◌, ℕ, ◌+◌, ◌++◌, ◌∷◌, List, [], map, refl, sym, ◌∙◌, ap, All, codes, lit<}
 use Rattle.std.proofs.lemmas.List.{append_assoc}
-use Rattle.std.proofs.lemmas.List.Elements.{All-nil, All-append, All-same}
+use Rattle.std.proofs.lemmas.List.Elements.{All-nil, All-append}
 use Rattle.hold_parts.specs.declared.parts.Position.{Position}
 use Rattle.text_lines.specs.Cuts.{Avoids}
 use Rattle.text_lines.specs.Sections.{HasNoneAhead}

@@ -19,7 +19,7 @@ use Rattle.tree_certificate.specs.declared.parts.Operation.{Operation}
 use Rattle.tree_certificate.specs.Listed.{ListedPrices, ListedSibling, ListedTrees}
 use Rattle.choice_prices.specs.Listing.{IsClique, prices_of}
 use Rattle.choice_prices.proofs.ValueLemmas.{prices-of}
-use Rattle.tree_checker.specs.GoodTrees.{Tree, TreeHolds, begun, neighbours, AreNeeded, nearer_ticks, neighbour_of, sibling_tree, trees_for, prices_in, IsGoodTrees}
+use Rattle.tree_checker.specs.GoodTrees.{TreeHolds, begun, neighbours, AreNeeded, nearer_ticks, neighbour_of, sibling_tree, trees_for, prices_in, IsGoodTrees}
 use Rattle.tree_checker.proofs.Refuting.{tree-refutes}
 use Rattle.tree_checker.proofs.Neighbours.{neighbour-or-empty, needed-refuted}
 
@@ -30,9 +30,6 @@ prices-are_of t c hold = All-from_recursion (AreOf t) (prices_in t c) (each c.pr
     each : (lists : List ListedPrices) → AllByRecursion (AreOf t) (map (prices_of t.hold c.cliques) lists)
     each [] = tt
     each (list ∷ lists) = (prices-of t c.cliques list hold, each lists)
-
-root-tree : (t : Problem) (path : List ℕ) (root : List Operation) → Tree
-root-tree t path root = record { ticks = nearer_ticks t (distance t path); choice = full t; operations = root }
 
 siblings-refuted : (t : Problem) (prices : List Prices) (path : List ℕ) (siblings : List ListedSibling) → All (AreOf t) prices
     → AllByRecursion (TreeHolds t prices) (map (sibling_tree t path) siblings)

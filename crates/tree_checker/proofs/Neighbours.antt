@@ -10,7 +10,7 @@ use Rattle.price_trees.specs.Prices.{Choice}
 use Rattle.price_trees.specs.Narrowing.{Ticks, fixed, is_empty, HasEmpty}
 use Rattle.price_trees.specs.Trees.{Refuted, Empty}
 use Rattle.tree_checker.specs.TreeReading.{IsOpen, IsClosed}
-use Rattle.tree_checker.specs.GoodTrees.{Neighbour, begun, smaller, neighbours, AreNeeded}
+use Rattle.tree_checker.specs.GoodTrees.{Neighbour, begun, smaller, AreNeeded}
 use Rattle.tree_checker.specs.GoodTrees as needed
 use Rattle.tree_checker.specs.FirstReason.{DifferAt}
 use Rattle.tree_checker.specs.FirstReason as differ

@@ -29,10 +29,6 @@ pub tested-none : {X : Type 0} (b : Bool) (x : X) → None ≡ (if b then None e
 tested-none true x is = refl
 tested-none false x is = cc
 
-pub tested-some : {X : Type 0} (b : Bool) (x y : X) → Some y ≡ (if b then None else Some x) → (b ≡ false) × (y ≡ x)
-tested-some true x y is = cc
-tested-some false x y is = (refl, cc)
-
 -- Lists -------------------------------------------------------------------------------------------
 
 pub map-map : {X Y Z : Type 0} (g : Y → Z) (f : X → Y) (xs : List X) → map (λ x. g (f x)) xs ≡ map g (map f xs)

@@ -1,7 +1,7 @@
 -- what is stowed, one container and one load more at a time
-use Rattle.std.proofs.Common.{◌≡◌, ℕ, zip, ◌+◌, ◌*◌, ◌^◌, ◌<◌, ◌≤◌, ℤ, pos, ◌+ℤ◌, ◌*ℤ◌, unsigned_abs, Bool, true, false, if◌then◌else◌, negsuc, List, [], ◌∷◌, ◌++◌, length, get_or, take, map, Some, refl, ap, ap₂, sym, ◌∙◌, arith, ⊎_elim, length-take}
+use Rattle.std.proofs.Common.{◌≡◌, ℕ, zip, ◌+◌, ◌*◌, ◌^◌, ◌<◌, ◌≤◌, ℤ, pos, ◌+ℤ◌, ◌*ℤ◌, unsigned_abs, Bool, true, false, if◌then◌else◌, negsuc, List, [], ◌∷◌, ◌++◌, length, get_or, take, map, Some, refl, ap, ap₂, sym, ◌∙◌, arith, ⊎_elim}
 use Rattle.std.proofs.lemmas.Int.{ints, unsigned_abs-mul}
-use Rattle.std.proofs.lemmas.List.{take_more, map-append, length-map, get_or_default}
+use Rattle.std.proofs.lemmas.List.{take_more, map-append, get_or_default}
 use Rattle.std.proofs.lemmas.List.Sums.{sum_by-append}
 use Rattle.std.proofs.lemmas.Option.{get_or_from_slice_get, slice_get_cases}
 use Rattle.std.proofs.lemmas.Slice.Zip.{get_or-zip, length-zip}
@@ -59,10 +59,6 @@ stowed-more items path rank q item before whole within there number is =
     take_more (pairs items path) rank (item, q) inside ∙ ap (λ p. take rank (pairs items path) ++ p ∷ []) (get_or-pairs items path rank q item (item, q) whole within there number) in
     ap (λ xs. xs ++ stowed_item (item, q) ∷ []) is
     ∙ sym (ap (map stowed_item) longer ∙ map-append stowed_item (take rank (pairs items path)) ((item, q) ∷ []))
-
-pub stowed-length : (items : List Item) (path : List ℕ) (rank : ℕ) (before : List Stowed) → before ≡ map stowed_item (take rank (pairs items path)) → length before ≤ rank
-stowed-length items path rank before is =
-    omega (arith, ap length is, length-map (take rank (pairs items path)) stowed_item, length-take rank (pairs items path))
 
 -- Moments -------------------------------------------------------------------------------------------
 

@@ -1,4 +1,4 @@
-use Rattle.std.proofs.Common.{◌≡◌, ◌∙◌, length, refl, sym, eq-eqb, lit≤}
+use Rattle.std.proofs.Common.{◌∙◌, length, refl, sym, eq-eqb, lit≤}
 use Rattle.std.proofs.lemmas.Bool.{false≢true, eqb-true}
 use Rattle.std.proofs.lemmas.Result.{err_from_is_err_and}
 use Rattle.text_lines.specs.Grammar.Fails.{no_memory}

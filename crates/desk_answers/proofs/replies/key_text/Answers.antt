@@ -1,4 +1,4 @@
-use Rattle.std.proofs.Common.{◌≡◌, subst, sym}
+use Rattle.std.proofs.Common.{subst, sym}
 use Rattle.std.specs.Prelude.{IsUtf8}
 use Rattle.desk_answers.proofs.KeyTexts.{text-key}
 use Rattle.desk_answers.proofs.replies.key_text.Goals as goal

@@ -1,4 +1,4 @@
-use Rattle.std.proofs.Common.{◌≡◌, ◌∙◌, map, ap}
+use Rattle.std.proofs.Common.{◌∙◌, map, ap}
 use Rattle.csv.specs.Records.{fields_of}
 use Rattle.desk_bodies.proofs.SameRecords.{same_records}
 use Rattle.desk_bodies.proofs.containers.read_containers.Goals as goal

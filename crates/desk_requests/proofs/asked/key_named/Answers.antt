@@ -1,4 +1,4 @@
-use Rattle.std.proofs.Common.{◌≡◌, ◌∙◌, ap}
+use Rattle.std.proofs.Common.{◌∙◌, ap}
 use Rattle.aircraft_file.specs.Spellings.{spelled}
 use Rattle.flight_state.specs.Spellings.{is_flight_key}
 use Rattle.desk_routes.specs.Targets.{key_in}

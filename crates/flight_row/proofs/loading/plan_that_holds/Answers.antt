@@ -6,7 +6,6 @@ use Rattle.trim.specs.declared.rules.Rule.{Rule}
 use Rattle.trim.specs.Limits as figures
 use Rattle.trim.specs.Refusals.{CanBeWeighed}
 use Rattle.trim.specs.Rules.{AreBroken}
-use Rattle.flight_state.specs.Effective.{effective}
 use Rattle.flight_state.proofs.LimitLemmas.{effective_keeps, same_parts}
 use Rattle.flight_row.specs.Loading.{StillHolds, rules_due}
 use Rattle.flight_row.proofs.PlanLemmas.{weighed_answers, no_other, due_broken, still_holds}

@@ -1,4 +1,4 @@
-use Rattle.std.proofs.Common.{◌≡◌, ◌∙◌, ap, sym}
+use Rattle.std.proofs.Common.{ap, sym}
 use Rattle.std.proofs.lemmas.Result.{err_from_is_err_and}
 use Rattle.flight_row.specs.Refusals.{row_fault}
 use Rattle.flight_row.specs.Refusals.IsRefused.{wrong_lines, no_aircraft, no_memory}

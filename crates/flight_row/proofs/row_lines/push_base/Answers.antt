@@ -1,8 +1,5 @@
 use Rattle.std.proofs.Common.{◌∙◌, ◌++◌, map, ap}
 use Rattle.std.proofs.lemmas.Result.{on_ok_weaker}
-use Rattle.payload.specs.declared.figures.ZoneCount.{ZoneCount}
-use Rattle.hold_parts.specs.declared.parts.Item.{Item}
-use Rattle.trim.specs.declared.figures.LooseFigure.{LooseFigure}
 use Rattle.text_lines.specs.Lines.{text_of}
 use Rattle.flight_row.specs.RowText.{zone_line, container_line, loose_line}
 use Rattle.flight_row.proofs.RowWriterLemmas.{base_written}

@@ -1,4 +1,3 @@
-use Rattle.flight_state.specs.declared.change.Lmc.{Lmc}
 use Rattle.flight_row.specs.Spelled.{IsNamedChange}
 use Rattle.text_lines.proofs.GrowingTexts.{lines_grow_of}
 use Rattle.flight_row.specs.RowText.{change_line}

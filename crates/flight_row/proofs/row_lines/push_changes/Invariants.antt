@@ -1,6 +1,5 @@
 use Rattle.std.proofs.Common.{◌≡◌, ◌++◌, take, map, All}
 use Rattle.text_lines.specs.Lines.{text_of}
-use Rattle.flight_state.specs.declared.change.Lmc.{Lmc}
 use Rattle.flight_row.specs.Spelled.{IsNamedChange}
 use Rattle.flight_row.specs.RowText.{change_line}
 use Rattle.flight_row.proofs.row_lines.push_changes.Given as goal

@@ -1,5 +1,5 @@
-use Rattle.std.proofs.Common.{◌≡◌, ◌∷◌, [], ◌∙◌, sym, ap, codes, arith, refl}
-use Rattle.mass_units.specs.Spelling.{number_text, signed_text}
+use Rattle.std.proofs.Common.{◌∷◌, [], refl}
+use Rattle.mass_units.specs.Spelling.{signed_text}
 use Rattle.flight_row.proofs.WordLemmas.{word_is}
 use Rattle.flight_row.proofs.ChangeLineLemmas.{wide, narrow, bulk_found}
 use Rattle.flight_row.proofs.section_lines.bulk_change.Goals as goal

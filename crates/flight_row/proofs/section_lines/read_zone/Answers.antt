@@ -1,4 +1,4 @@
-use Rattle.std.proofs.Common.{◌≡◌, ◌∷◌, [], ◌∙◌, sym, ap, arith}
+use Rattle.std.proofs.Common.{◌≡◌, ◌∷◌, [], ◌∙◌, sym, ap}
 use Rattle.mass_units.specs.Spelling.{number_text}
 use Rattle.text_lines.specs.Lines.{line_of}
 use Rattle.flight_row.specs.Words.{words_in}

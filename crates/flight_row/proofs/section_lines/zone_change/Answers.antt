@@ -1,4 +1,4 @@
-use Rattle.std.proofs.Common.{◌≡◌, ◌∷◌, [], ◌∙◌, sym, ap, codes, arith, refl}
+use Rattle.std.proofs.Common.{◌≡◌, ◌∷◌, [], arith, refl}
 use Rattle.mass_units.specs.Spelling.{number_text, signed_text}
 use Rattle.mass_units.proofs.SpellingLemmas.{number_text-injective}
 use Rattle.flight_row.proofs.WordLemmas.{word_is}

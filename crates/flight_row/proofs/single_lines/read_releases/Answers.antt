@@ -4,7 +4,6 @@ use Rattle.text_lines.specs.Lines.{line_of}
 use Rattle.flight_row.specs.Words.{words_in}
 use Rattle.std.proofs.Common.{codes}
 use Rattle.mass_units.proofs.SpellingLemmas.{number_text-injective}
-use Rattle.flight_row.specs.Spelled.{first_releases}
 use Rattle.flight_row.proofs.StageLemmas.{least-once, once-least}
 use Rattle.flight_row.proofs.WordLemmas.{line_of-words}
 use Rattle.flight_row.proofs.LineLemmas.{releases_words}

@@ -1,4 +1,4 @@
-use Rattle.std.proofs.Common.{◌≡◌, ◌++◌, ◌∷◌, [], ◌∙◌, List, All, map, ap, sym, subst}
+use Rattle.std.proofs.Common.{◌≡◌, ◌++◌, ◌∷◌, [], ◌∙◌, List, All, map, ap, subst}
 use Rattle.hold_parts.specs.Spellings.{IsName}
 use Rattle.hold_parts.specs.declared.parts.Position.{Position}
 use Rattle.hold_limits.specs.Layout.{Layout}

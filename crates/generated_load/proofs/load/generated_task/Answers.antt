@@ -1,4 +1,3 @@
-use Rattle.std.proofs.Common.{rules, refl, ◌≡◌}
 use Rattle.generated_load.proofs.LawfulLemmas.{task-is-right}
 use Rattle.generated_load.proofs.load.generated_task.Goals as goal
 

@@ -1,4 +1,3 @@
-use Rattle.std.proofs.Common.{rules, refl, ◌≡◌}
 use Rattle.generated_load.proofs.LawfulLemmas.{hold-is-right, hold-is-well-spelled}
 use Rattle.generated_load.proofs.load.hold.Goals as goal
 

@@ -1,4 +1,4 @@
-use Rattle.std.proofs.Common.{rules, refl, arith, zero-add, ◌≡◌}
+use Rattle.std.proofs.Common.{refl, arith, zero-add, ◌≡◌}
 use Rattle.std.proofs.lemmas.List.FromFn.{map-range_with_len_more}
 use Rattle.generated_load.specs.Load.{generated_position, generated_positions}
 use Rattle.generated_load.proofs.load.positions.Goals as goal

@@ -1,4 +1,4 @@
-use Rattle.std.proofs.Common.{◌≡◌, ◌++◌, ◌∷◌, [], List, ap, ap₂, ◌∙◌}
+use Rattle.std.proofs.Common.{◌++◌, ◌∷◌, [], List, ap, ap₂, ◌∙◌}
 use Rattle.std.specs.Prelude.{ℕ, codes, map}
 use Rattle.last_minute.specs.declared.sheet.Place.{Place}
 use Rattle.telex.specs.Elements.{line_text}

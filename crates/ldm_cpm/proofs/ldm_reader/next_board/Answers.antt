@@ -1,7 +1,5 @@
 use Rattle.telex.specs.Items.{placed_line}
-use Rattle.ldm_cpm.specs.Messages.{OnBoard, IsSpelledBoard, board_elements}
-use Rattle.ldm_cpm.proofs.LineReading.{line-says, board-found, board-back}
-use Rattle.ldm_cpm.proofs.PlainLines.{elements-board}
+use Rattle.ldm_cpm.proofs.LineReading.{board-found, board-back}
 use Rattle.ldm_cpm.proofs.ldm_reader.next_board.Goals as goal
 
 pub returns-in_ok-parts-in-Some-clause-found : goal.returns-in_ok-parts-in-Some-clause-found

@@ -1,8 +1,8 @@
-use Rattle.std.proofs.Common.{◌≡◌, List, ◌∷◌, refl, sym, ap, ◌∙◌}
+use Rattle.std.proofs.Common.{List, ◌∷◌, ap, ◌∙◌}
 use Rattle.telex.specs.Lines.{PlacedLine}
 use Rattle.ldm_cpm.specs.Messages.{LoadMessage, IsSpelledLdm}
 use Rattle.ldm_cpm.specs.Reading.{heading_of, crew_of, board_said}
-use Rattle.ldm_cpm.proofs.LdmReading.{HasCrew, fails-title, fails-crew, fails-board, fails-more, passes, read-ldm, three-lines, back-ldm}
+use Rattle.ldm_cpm.proofs.LdmReading.{HasCrew, fails-title, fails-crew, fails-board, fails-more, passes, read-ldm, back-ldm}
 use Rattle.ldm_cpm.proofs.ldm_reader.read_lines.Goals as goal
 
 pub returns-then-not-next_title-clause-refused : goal.returns-then-not-next_title-clause-refused

@@ -1,8 +1,8 @@
-use Rattle.std.proofs.Common.{◌≡◌, ◌++◌, ◌∷◌, [], ap, ◌∙◌}
+use Rattle.std.proofs.Common.{◌++◌, ◌∷◌, [], ap, ◌∙◌}
 use Rattle.std.specs.Prelude.{codes}
 use Rattle.telex.specs.Elements.{line_text}
-use Rattle.ldm_cpm.specs.Messages.{crew_elements, board_elements, ldm_text}
-use Rattle.ldm_cpm.specs.Sheets.{heading_on, board_on, ldm_of}
+use Rattle.ldm_cpm.specs.Messages.{crew_elements, board_elements}
+use Rattle.ldm_cpm.specs.Sheets.{heading_on, board_on}
 use Rattle.ldm_cpm.proofs.Texts.{ldm-built}
 use Rattle.ldm_cpm.proofs.ldm_writer.write_ldm.Goals as goal
 

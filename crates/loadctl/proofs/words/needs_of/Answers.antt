@@ -1,4 +1,3 @@
-use Rattle.std.proofs.Common.{rules}
 use Rattle.loadctl.proofs.AskedLemmas.{ask-task, ask-desk, ask-nothing}
 use Rattle.loadctl.proofs.NeedLemmas.{needed-task, needed-desk}
 use Rattle.loadctl.proofs.words.needs_of.Goals as goal

@@ -1,4 +1,4 @@
-use Rattle.std.proofs.Common.{◌≡◌, rules}
+use Rattle.std.proofs.Common.{rules}
 use Rattle.serde_json.proofs.OnLiterals.{serde_json_on_literals}
 use Rattle.desk_answers.proofs.errors.PlainError.body.Goals as goal
 

@@ -1,4 +1,4 @@
-use Rattle.std.proofs.Common.{◌∙◌, ap, subst, rules}
+use Rattle.std.proofs.Common.{◌∙◌, subst, rules}
 use Rattle.std.proofs.lemmas.Fn.{always_returns_same}
 use Rattle.keeper.specs.Rows.{IsPlaceOf, key_order}
 use Rattle.keeper.proofs.RowLemmas.{place-found}

@@ -1,6 +1,6 @@
-use Rattle.std.proofs.Common.{◌≡◌, List, set, Ok, Err, sym, ◌∙◌, ap, subst}
+use Rattle.std.proofs.Common.{List, set, Ok, Err, sym, ◌∙◌, ap, subst}
 use Rattle.std.specs.List.{insert}
-use Rattle.keeper.specs.Rows.{with_row, IsPlaceOf}
+use Rattle.keeper.specs.Rows.{IsPlaceOf}
 use Rattle.keeper.specs.Tables.{AreInKeyOrder}
 use Rattle.keeper.specs.declared.row.KeptRow.{KeptRow}
 use Rattle.keeper.proofs.RowLemmas.{put-found, put-new, rising-with_row}
