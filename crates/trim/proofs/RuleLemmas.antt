@@ -144,19 +144,19 @@ verdicts-tell a f path w v whole is are rule = tell rule
     tell on.Regulated = by_mass RegulatedAboveCertified v.regulated are.regulated
     tell on.ZeroFuelEnvelope =
         let P : MassInput → ℤ → Type 0 = λ m z. IsTrue v.zero_fuel_envelope ↔ IsInside a.zero_fuel (zero_fuel_mass m) z in
-        let at : (w.zero_fuel.0 +ℤ hold_index_in a f.containers path w) ≡ (zero_fuel_base a f +ℤ hold_index (offer a f) path) = ap₂ (λ x y. x +ℤ y) is.zero_fuel hold in
-        subst (P (mass_input a f)) at (subst (λ (m : MassInput). P m (w.zero_fuel.0 +ℤ hold_index_in a f.containers path w)) is.input are.zero_fuel_envelope)
+        let at : (w.zero_fuel_base.0 +ℤ hold_index_in a f.containers path w) ≡ (zero_fuel_base a f +ℤ hold_index (offer a f) path) = ap₂ (λ x y. x +ℤ y) is.zero_fuel hold in
+        subst (P (mass_input a f)) at (subst (λ (m : MassInput). P m (w.zero_fuel_base.0 +ℤ hold_index_in a f.containers path w)) is.input are.zero_fuel_envelope)
     tell on.TakeOffEnvelope =
         let P : MassInput → ℤ → Type 0 = λ m z. IsTrue v.take_off_envelope ↔ IsInside a.take_off (take_off_mass m) z in
-        let at : (w.take_off.0 +ℤ hold_index_in a f.containers path w) ≡ (w.take_off.0 +ℤ hold_index (offer a f) path) = ap (λ y. w.take_off.0 +ℤ y) hold in
-        let tells = subst (P (mass_input a f)) at (subst (λ (m : MassInput). P m (w.take_off.0 +ℤ hold_index_in a f.containers path w)) is.input are.take_off_envelope) in
-        let inside = inside-with a.take_off (take_off_mass (mass_input a f)) f.fuel.take_off.0 a f path w.take_off.0 is.take_off in
+        let at : (w.take_off_base.0 +ℤ hold_index_in a f.containers path w) ≡ (w.take_off_base.0 +ℤ hold_index (offer a f) path) = ap (λ y. w.take_off_base.0 +ℤ y) hold in
+        let tells = subst (P (mass_input a f)) at (subst (λ (m : MassInput). P m (w.take_off_base.0 +ℤ hold_index_in a f.containers path w)) is.input are.take_off_envelope) in
+        let inside = inside-with a.take_off (take_off_mass (mass_input a f)) f.fuel.take_off.0 a f path w.take_off_base.0 is.take_off in
         through tells (inside.1, inside.0)
     tell on.LandingEnvelope =
         let P : MassInput → ℤ → Type 0 = λ m z. IsTrue v.landing_envelope ↔ IsInside a.landing (landing_mass m) z in
-        let at : (w.landing.0 +ℤ hold_index_in a f.containers path w) ≡ (w.landing.0 +ℤ hold_index (offer a f) path) = ap (λ y. w.landing.0 +ℤ y) hold in
-        let tells = subst (P (mass_input a f)) at (subst (λ (m : MassInput). P m (w.landing.0 +ℤ hold_index_in a f.containers path w)) is.input are.landing_envelope) in
-        let inside = inside-with a.landing (landing_mass (mass_input a f)) (landing_fuel f) a f path w.landing.0 is.landing in
+        let at : (w.landing_base.0 +ℤ hold_index_in a f.containers path w) ≡ (w.landing_base.0 +ℤ hold_index (offer a f) path) = ap (λ y. w.landing_base.0 +ℤ y) hold in
+        let tells = subst (P (mass_input a f)) at (subst (λ (m : MassInput). P m (w.landing_base.0 +ℤ hold_index_in a f.containers path w)) is.input are.landing_envelope) in
+        let inside = inside-with a.landing (landing_mass (mass_input a f)) (landing_fuel f) a f path w.landing_base.0 is.landing in
         through tells (inside.1, inside.0)
     tell on.Hold = through are.hold (sound-stands (offer a f) path (stowed_in f.containers path w) whole stowed)
     tell on.Lateral =

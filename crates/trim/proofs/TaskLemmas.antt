@@ -115,14 +115,14 @@ stowed-once one other same = sym (told-back one) ∙ ap (map loose_told) same �
 rooms-are : (a : Craft) (f : Figures) (w : Weighed) (rooms : Rooms) → IsWeighed a f w → AreRoomsFor a w rooms → AreRooms a f rooms
 rooms-are a f w rooms is are = record {
   zero_fuel = subst (λ (z : ℤ). IsRoom a.zero_fuel (zero_fuel_mass (mass_input a f)) z rooms.zero_fuel) is.zero_fuel
-      (subst (λ (m : MassInput). IsRoom a.zero_fuel (zero_fuel_mass m) w.zero_fuel.0 rooms.zero_fuel) is.input are.zero_fuel);
-  take_off = (w.take_off.0, is.take_off, subst (λ (m : MassInput). IsRoom a.take_off (take_off_mass m) w.take_off.0 rooms.take_off) is.input are.take_off);
-  landing = (w.landing.0, is.landing, subst (λ (m : MassInput). IsRoom a.landing (landing_mass m) w.landing.0 rooms.landing) is.input are.landing);
+      (subst (λ (m : MassInput). IsRoom a.zero_fuel (zero_fuel_mass m) w.zero_fuel_base.0 rooms.zero_fuel) is.input are.zero_fuel);
+  take_off = (w.take_off_base.0, is.take_off, subst (λ (m : MassInput). IsRoom a.take_off (take_off_mass m) w.take_off_base.0 rooms.take_off) is.input are.take_off);
+  landing = (w.landing_base.0, is.landing, subst (λ (m : MassInput). IsRoom a.landing (landing_mass m) w.landing_base.0 rooms.landing) is.input are.landing);
 }
 
 pub parts-are : (a : Craft) (f : Figures) (w : Weighed) (window : Band) (hold : Layout) (items : List Item) (loose : List Loose) (low high : Ticks) (t : Problem) → IsWeighed a f w → IsWindowFor a w window
     → hold ≡ a.hold → items ≡ f.containers → map stowed_loose loose ≡ w.loose.items → low ≡ a.ideal.low → high ≡ a.ideal.high
-    → t ≡ problem_of hold items loose (indices_of w.take_off window.low window.high low high) → HasParts a f t
+    → t ≡ problem_of hold items loose (indices_of w.take_off_base window.low window.high low high) → HasParts a f t
 parts-are a f w window hold items loose low high t is room same_hold same_items same_loose same_low same_high made = record {
   hold = ap (λ (x : Problem). x.hold) made ∙ same_hold;
   items = ap (λ (x : Problem). x.items) made ∙ same_items;

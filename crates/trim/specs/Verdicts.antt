@@ -54,8 +54,8 @@ pub record AreVerdicts (a : Craft) (items : List Item) (path : List ℕ) (w : We
   pub take_off : IsTrue v.take_off ↔ KeepsMassRule w.input a.certified mass.TakeOff
   pub landing : IsTrue v.landing ↔ KeepsMassRule w.input a.certified mass.Landing
   pub regulated : IsTrue v.regulated ↔ KeepsMassRule w.input a.certified mass.RegulatedAboveCertified
-  pub zero_fuel_envelope : IsTrue v.zero_fuel_envelope ↔ IsInside a.zero_fuel (zero_fuel_mass w.input) (w.zero_fuel.0 +ℤ hold_index_in a items path w)
-  pub take_off_envelope : IsTrue v.take_off_envelope ↔ IsInside a.take_off (take_off_mass w.input) (w.take_off.0 +ℤ hold_index_in a items path w)
-  pub landing_envelope : IsTrue v.landing_envelope ↔ IsInside a.landing (landing_mass w.input) (w.landing.0 +ℤ hold_index_in a items path w)
+  pub zero_fuel_envelope : IsTrue v.zero_fuel_envelope ↔ IsInside a.zero_fuel (zero_fuel_mass w.input) (w.zero_fuel_base.0 +ℤ hold_index_in a items path w)
+  pub take_off_envelope : IsTrue v.take_off_envelope ↔ IsInside a.take_off (take_off_mass w.input) (w.take_off_base.0 +ℤ hold_index_in a items path w)
+  pub landing_envelope : IsTrue v.landing_envelope ↔ IsInside a.landing (landing_mass w.input) (w.landing_base.0 +ℤ hold_index_in a items path w)
   pub hold : IsTrue v.hold ↔ StandsSoundly a.hold items path (stowed_in items path w)
   pub lateral : IsTrue v.lateral ↔ IsWithinLateral a.hold (int_sum_by (stowed_lateral a.hold) (stowed_in items path w))

@@ -16,17 +16,17 @@ use Rattle.trim.specs.Refusals as refusals
 
 -- the bases lie within 10,000,000,000 index units either way
 pub record AreNear (w : Weighed) : Type 0 where
-  pub zero_fuel : unsigned_abs w.zero_fuel.0 ≤ 1000000000000000
-  pub take_off : unsigned_abs w.take_off.0 ≤ 1000000000000000
-  pub landing : unsigned_abs w.landing.0 ≤ 1000000000000000
+  pub zero_fuel : unsigned_abs w.zero_fuel_base.0 ≤ 1000000000000000
+  pub take_off : unsigned_abs w.take_off_base.0 ≤ 1000000000000000
+  pub landing : unsigned_abs w.landing_base.0 ≤ 1000000000000000
 
 -- the flight of these figures, weighed
 pub record IsWeighed (a : Craft) (f : Figures) (w : Weighed) : Type 0 where
   pub right : refusals.CanBeWeighed a f
   pub input : w.input ≡ mass_input a f
-  pub zero_fuel : w.zero_fuel.0 ≡ zero_fuel_base a f
-  pub take_off : IsTakeOffBase a f w.take_off.0
-  pub landing : IsLandingBase a f w.landing.0
+  pub zero_fuel : w.zero_fuel_base.0 ≡ zero_fuel_base a f
+  pub take_off : IsTakeOffBase a f w.take_off_base.0
+  pub landing : IsLandingBase a f w.landing_base.0
   pub loose : w.loose.items ≡ map stowed_loose (loose_loads a f)
   -- its masses are numbers of 32 bits
   pub masses : CanBeWeighed w.input
@@ -34,9 +34,9 @@ pub record IsWeighed (a : Craft) (f : Figures) (w : Weighed) : Type 0 where
 
 -- the rooms that the envelopes leave a weighed flight
 pub record AreRoomsFor (a : Craft) (w : Weighed) (rooms : Rooms) : Type 0 where
-  pub zero_fuel : IsRoom a.zero_fuel (zero_fuel_mass w.input) w.zero_fuel.0 rooms.zero_fuel
-  pub take_off : IsRoom a.take_off (take_off_mass w.input) w.take_off.0 rooms.take_off
-  pub landing : IsRoom a.landing (landing_mass w.input) w.landing.0 rooms.landing
+  pub zero_fuel : IsRoom a.zero_fuel (zero_fuel_mass w.input) w.zero_fuel_base.0 rooms.zero_fuel
+  pub take_off : IsRoom a.take_off (take_off_mass w.input) w.take_off_base.0 rooms.take_off
+  pub landing : IsRoom a.landing (landing_mass w.input) w.landing_base.0 rooms.landing
 
 -- the window is what they have in common
 pub record IsWindowFor (a : Craft) (w : Weighed) (window : Band) : Type 0 where

@@ -54,15 +54,15 @@ pub fn balance_of(a: &Aircraft, flight: &Weighed, hold: Ticks) -> Balance
     ensures masses { result.masses ≡ masses_of flight.now.input }
     ensures underload { result.underload.kg ≡ underload_of flight.now.input a.now.certified }
     ensures limiting { find (is_least flight.now.input a.now.certified) limits ≡ Some result.underload.limiting }
-    ensures zero_fuel { result.zero_fuel.0 ≡ flight.now.zero_fuel.0 +ℤ hold.0 }
-    ensures take_off { result.take_off.0 ≡ flight.now.take_off.0 +ℤ hold.0 }
-    ensures landing { result.landing.0 ≡ flight.now.landing.0 +ℤ hold.0 }
+    ensures zero_fuel { result.zero_fuel.0 ≡ flight.now.zero_fuel_base.0 +ℤ hold.0 }
+    ensures take_off { result.take_off.0 ≡ flight.now.take_off_base.0 +ℤ hold.0 }
+    ensures landing { result.landing.0 ≡ flight.now.landing_base.0 +ℤ hold.0 }
 {
     Balance {
         masses: masses(&flight.input),
         underload: underload(&flight.input, a.certified()),
-        zero_fuel: Ticks(flight.zero_fuel.0 + hold.0),
-        take_off: Ticks(flight.take_off.0 + hold.0),
-        landing: Ticks(flight.landing.0 + hold.0),
+        zero_fuel: Ticks(flight.zero_fuel_base.0 + hold.0),
+        take_off: Ticks(flight.take_off_base.0 + hold.0),
+        landing: Ticks(flight.landing_base.0 + hold.0),
     }
 }

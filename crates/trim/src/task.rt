@@ -51,7 +51,7 @@ pub fn task_of(alloc: Global, a: &Aircraft, f: &Figures) -> Result<Task, TrimFau
         parts.hold,
         parts.items,
         parts.loose,
-        flight.take_off,
+        flight.take_off_base,
         window.low,
         window.high,
         a.ideal_low(),

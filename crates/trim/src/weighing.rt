@@ -24,11 +24,11 @@ use payload::{Load, cabin_load};
 pub struct Weighed {
     pub input: MassInput,
     /// The base of the zero-fuel index.
-    pub zero_fuel: Ticks,
+    pub zero_fuel_base: Ticks,
     /// The base of the take-off index.
-    pub take_off: Ticks,
+    pub take_off_base: Ticks,
     /// The base of the landing index.
-    pub landing: Ticks,
+    pub landing_base: Ticks,
     pub loose: LooseLoads,
 }
 
@@ -44,12 +44,12 @@ pub fn weigh(a: &Aircraft, f: &Figures) -> Result<Weighed, TrimFault>
     let loose = loose_loads(a, f.loose.as_slice())?;
     let containers = mass_of_containers(f.containers.as_slice());
     let traffic = Kg(cabin.mass.0 + containers + mass_of_loose(loose.as_slice()));
-    let zero_fuel = sum(f.dry.index, cabin.index);
+    let zero_fuel_base = sum(f.dry.index, cabin.index);
     Ok(Weighed {
         input: input_of(f, traffic),
-        zero_fuel,
-        take_off: sum(zero_fuel, take_off),
-        landing: sum(zero_fuel, landing),
+        zero_fuel_base,
+        take_off_base: sum(zero_fuel_base, take_off),
+        landing_base: sum(zero_fuel_base, landing),
         loose,
     })
 }

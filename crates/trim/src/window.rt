@@ -24,13 +24,13 @@ pub fn window_of(a: &Aircraft, flight: &Weighed) -> Result<Band, TrimFault>
     ensures closed { IfErr result (IsNoWindowFor a.now flight.now) }
 {
     let masses = masses(&flight.input);
-    let Some(zero_fuel) = room_in(a.zero_fuel(), masses.zero_fuel, flight.zero_fuel) else {
+    let Some(zero_fuel) = room_in(a.zero_fuel(), masses.zero_fuel, flight.zero_fuel_base) else {
         return Err(TrimFault::NoWindow(1));
     };
-    let Some(take_off) = room_in(a.take_off(), masses.take_off, flight.take_off) else {
+    let Some(take_off) = room_in(a.take_off(), masses.take_off, flight.take_off_base) else {
         return Err(TrimFault::NoWindow(2));
     };
-    let Some(landing) = room_in(a.landing(), masses.landing, flight.landing) else {
+    let Some(landing) = room_in(a.landing(), masses.landing, flight.landing_base) else {
         return Err(TrimFault::NoWindow(3));
     };
     Ok(common(common(zero_fuel, take_off), landing))

@@ -39,6 +39,6 @@ returns-clause-balance c =
       underload = rw w.input at b.underload;
       limiting = rw w.input at b.limiting;
       zero_fuel = b.zero_fuel ∙ ap₂ (λ x y. x +ℤ y) w.zero_fuel (hold-is c);
-      take_off = (c.in_ok-flight.flight.take_off.0, w.take_off, b.take_off ∙ ap (λ z. c.in_ok-flight.flight.take_off.0 +ℤ z) (hold-is c));
-      landing = (c.in_ok-flight.flight.landing.0, w.landing, b.landing ∙ ap (λ z. c.in_ok-flight.flight.landing.0 +ℤ z) (hold-is c));
+      take_off = (c.in_ok-flight.flight.take_off_base.0, w.take_off, b.take_off ∙ ap (λ z. c.in_ok-flight.flight.take_off_base.0 +ℤ z) (hold-is c));
+      landing = (c.in_ok-flight.flight.landing_base.0, w.landing, b.landing ∙ ap (λ z. c.in_ok-flight.flight.landing_base.0 +ℤ z) (hold-is c));
     }

@@ -48,10 +48,10 @@ returns-clause-weighed c =
     let traffic : c.in_ok-cabin.cabin.mass.0 + c.mass_of_containers-containers.result + c.mass_of_loose.result ≡ traffic_mass a f = omega arith in
     let few : traffic_mass a f ≤ 2000000000 = omega (arith, light, c.in_ok-cabin.ensures.light, c.in_ok-loose.ensures.light) in
     let input : c.input_of.result ≡ mass_input a f = c.input_of.ensures ∙ ap (λ n. let t : Kg = record { 0 = n } in let m : MassInput = record (mass_input a f) { traffic = t } in m) traffic in
-    let zero_fuel : c.sum-zero_fuel.result.0 ≡ zero_fuel_base a f = c.sum-zero_fuel.ensures ∙ ap (λ z. f.dry.index.0 +ℤ z) cabin_at in
+    let zero_fuel : c.sum-zero_fuel_base.result.0 ≡ zero_fuel_base a f = c.sum-zero_fuel_base.ensures ∙ ap (λ z. f.dry.index.0 +ℤ z) cabin_at in
     let dry : unsigned_abs f.dry.index.0 ≤ 1000000000 = c.requires.at in
-    let first : c.sum-zero_fuel.result.0 ≡ f.dry.index.0 +ℤ c.in_ok-cabin.cabin.index.0 = c.sum-zero_fuel.ensures in
-    let near : unsigned_abs c.sum-zero_fuel.result.0 ≤ 200000000000000 = omega (arith, ints, c.in_ok-cabin.ensures.near) in
+    let first : c.sum-zero_fuel_base.result.0 ≡ f.dry.index.0 +ℤ c.in_ok-cabin.cabin.index.0 = c.sum-zero_fuel_base.ensures in
+    let near : unsigned_abs c.sum-zero_fuel_base.result.0 ≤ 200000000000000 = omega (arith, ints, c.in_ok-cabin.ensures.near) in
     record {
       right = record { fuel = record { take_off = c.in_ok-take_off.ensures.there; landing = c.in_ok-landing.ensures.there }; cabin = c.in_ok-cabin.ensures.right; loose = all };
       input = input;
