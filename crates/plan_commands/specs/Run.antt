@@ -61,7 +61,7 @@ pub record IsRun (arguments : List (List ℕ)) (before after : Outside) (ending 
   pub ends : Ends arguments before after ending
   -- the files stay as they were
   pub same_files : after.files ≡ before.files
-  -- arguments are reported as invalid exactly if they are; then no file is read
+  -- arguments are reported as invalid exactly if they are; then no read fails
   pub usage : ending ≡ Ok Usage → IsUsage arguments before after
   pub invalid : AreInvalid arguments → IfOk ending (λ outcome. outcome ≡ Usage)
   pub unread : AreInvalid arguments → ending ≢ Err ReadFault
