@@ -1,86 +1,71 @@
 -- the line of a late change is read in one way only, and contains no end of a line
-use Rattle.std.proofs.Common.{◌≡◌, ◌≢◌, ℕ, ◌<◌, ◌≤◌, ℤ, unsigned_abs, w16, w32, to_z, of_z, Bool, false, ◌∷◌, List, [], refl, sym, ◌∙◌, ap, arith, codes, lit<, subst}
+use Rattle.std.proofs.Common.{◌≡◌, ◌≢◌, ℕ, ◌<◌, ◌≤◌, ℤ, unsigned_abs, w16, w32, to_z, of_z, Bool, false, ◌∷◌, List, [], refl, sym, ◌∙◌, ap, arith, codes, subst}
 use Rattle.std.specs.Prelude.{bytes_eq}
 use Rattle.std.proofs.lemmas.Bool.{true≢false}
-use Rattle.std.proofs.lemmas.List.Elements.{All-from_recursion}
+use Rattle.std.specs.List.{AllByRecursion}
 use Rattle.std.proofs.lemmas.Int.{to_z-of_z, fits_signed_from_abs}
 use Rattle.mass_units.specs.Spelling.{number_text, signed_text}
 use Rattle.mass_units.proofs.SpellingLemmas.{number_text-avoids, signed_text-avoids, number_text-injective, signed_text-injective}
 use Rattle.hold_parts.specs.Spellings.{IsName}
 use Rattle.text_lines.specs.Cuts.{Avoids}
 use Rattle.text_lines.specs.Lines.{line_of}
-use Rattle.text_lines.proofs.WordLemmas.{plain_word}
 use Rattle.flight_state.specs.declared.change.Lmc.{Lmc}
 use Rattle.flight_state.specs.declared.change.Lmc.TheVariants.{Cabin, Loose}
 use Rattle.flight_row.specs.Words.{words_in}
 use Rattle.flight_row.specs.RowText.{change_line}
 use Rattle.flight_row.specs.Spelled.{IsSpelledChange}
-use Rattle.flight_row.proofs.WordLemmas.{line_of-words, words-line_of, line-avoids}
+use Rattle.flight_row.proofs.WordLemmas.{line_of-words}
 use Rattle.text_lines.proofs.SpelledWords.{name_avoids}
-use Rattle.flight_row.proofs.LineLemmas.{AreClear}
+use Rattle.text_lines.proofs.Rests.{IsLineKind}
+use Rattle.flight_row.proofs.LineLemmas.{AreWords, words_are, line_kind, letters_avoid}
 
 abbrev Words : Type 0
 Words = List (List ℕ)
 
--- the words of a change
-abbrev pub change_words : Lmc → Words
-change_words (Cabin zone adults children infants) =
-    codes "lmc" ∷ codes "zone" ∷ number_text zone ∷ signed_text adults ∷ signed_text children ∷ signed_text infants ∷ []
-change_words (Loose position mass pieces) =
-    codes "lmc" ∷ codes "bulk" ∷ position ∷ signed_text mass ∷ signed_text pieces ∷ []
+-- the words of a change behind the first
+abbrev pub change_rest : Lmc → Words
+change_rest (Cabin zone adults children infants) = codes "zone" ∷ number_text zone ∷ signed_text adults ∷ signed_text children ∷ signed_text infants ∷ []
+change_rest (Loose position mass pieces) = codes "bulk" ∷ position ∷ signed_text mass ∷ signed_text pieces ∷ []
 
--- the words behind the first
-abbrev zone_rest : ℕ → ℤ → ℤ → ℤ → Words
-zone_rest zone adults children infants = codes "zone" ∷ number_text zone ∷ signed_text adults ∷ signed_text children ∷ signed_text infants ∷ []
+change_is : (x : Lmc) → change_line x ≡ line_of (codes "lmc" ∷ change_rest x)
+change_is (Cabin zone adults children infants) = refl
+change_is (Loose position mass pieces) = refl
 
-abbrev bulk_rest : List ℕ → ℤ → ℤ → Words
-bulk_rest name mass pieces = codes "bulk" ∷ name ∷ signed_text mass ∷ signed_text pieces ∷ []
+rest_clear : (k : ℕ) → k < 45 → (x : Lmc) → IsSpelledChange x → AllByRecursion (Avoids k) (change_rest x)
+rest_clear k low (Cabin zone adults children infants) s =
+    (letters_avoid k (codes "zone") low refl, (number_text-avoids k zone low, (signed_text-avoids k adults low, (signed_text-avoids k children low, (signed_text-avoids k infants low, tt)))))
+rest_clear k low (Loose name mass pieces) s = (letters_avoid k (codes "bulk") low refl, (name_avoids k name low s.0, (signed_text-avoids k mass low, (signed_text-avoids k pieces low, tt))))
 
-cabin_clear : (k : ℕ) → k < 45 → Avoids k (codes "lmc") → Avoids k (codes "zone") → (zone : ℕ) (adults children infants : ℤ) → AreClear k (codes "lmc" ∷ zone_rest zone adults children infants)
-cabin_clear k low lmc word zone adults children infants =
-    All-from_recursion (Avoids k) (codes "lmc" ∷ zone_rest zone adults children infants)
-    (lmc, (word, (number_text-avoids k zone low, (signed_text-avoids k adults low, (signed_text-avoids k children low, (signed_text-avoids k infants low, tt))))))
-
-loose_clear : (k : ℕ) → k < 45 → Avoids k (codes "lmc") → Avoids k (codes "bulk") → (name : List ℕ) (mass pieces : ℤ) → IsName name → AreClear k (codes "lmc" ∷ bulk_rest name mass pieces)
-loose_clear k low lmc bulk name mass pieces named =
-    All-from_recursion (Avoids k) (codes "lmc" ∷ bulk_rest name mass pieces)
-    (lmc, (bulk, (name_avoids k name low named, (signed_text-avoids k mass low, (signed_text-avoids k pieces low, tt)))))
-
-pub change_words-are : (line : List ℕ) (x : Lmc) → IsSpelledChange x → line ≡ change_line x → words_in line ≡ change_words x
-change_words-are line (Cabin zone adults children infants) s e =
-    ap words_in e ∙ words-line_of (codes "lmc") (zone_rest zone adults children infants) (cabin_clear 32 (lit< tt) (plain_word 32 (codes "lmc") refl) (plain_word 32 (codes "zone") refl) zone adults children infants)
-change_words-are line (Loose name mass pieces) s e =
-    ap words_in e ∙ words-line_of (codes "lmc") (bulk_rest name mass pieces) (loose_clear 32 (lit< tt) (plain_word 32 (codes "lmc") refl) (plain_word 32 (codes "bulk") refl) name mass pieces s.0)
-
-pub change_avoids : (x : Lmc) → IsSpelledChange x → Avoids 10 (change_line x)
-change_avoids (Cabin zone adults children infants) s =
-    line-avoids (codes "lmc") (zone_rest zone adults children infants) (cabin_clear 10 (lit< tt) (plain_word 10 (codes "lmc") refl) (plain_word 10 (codes "zone") refl) zone adults children infants)
-change_avoids (Loose name mass pieces) s =
-    line-avoids (codes "lmc") (bulk_rest name mass pieces) (loose_clear 10 (lit< tt) (plain_word 10 (codes "lmc") refl) (plain_word 10 (codes "bulk") refl) name mass pieces s.0)
-
--- whether the second word says that a zone is changed
+-- whether the words say that a zone is changed
 abbrev names_zone : Words → Bool
 names_zone [] = false
-names_zone (w ∷ []) = false
-names_zone (w ∷ v ∷ ws) = bytes_eq v (codes "zone")
+names_zone (w ∷ ws) = bytes_eq w (codes "zone")
 
-same_words : (x y : Lmc) → change_words x ≡ change_words y → x ≡ y
-same_words (Cabin zone adults children infants) (Cabin zone' adults' children' infants') e =
+same_rest : (x y : Lmc) → change_rest x ≡ change_rest y → x ≡ y
+same_rest (Cabin zone adults children infants) (Cabin zone' adults' children' infants') e =
     let z : number_text zone ≡ number_text zone' = cc in
     let a : signed_text adults ≡ signed_text adults' = cc in
     let c : signed_text children ≡ signed_text children' = cc in
     let i : signed_text infants ≡ signed_text infants' = cc in
     λ j. Cabin (number_text-injective zone zone' z j) (signed_text-injective adults adults' a j) (signed_text-injective children children' c j) (signed_text-injective infants infants' i j)
-same_words (Cabin zone adults children infants) (Loose name mass pieces) e = absurd (true≢false (ap names_zone e))
-same_words (Loose name mass pieces) (Cabin zone adults children infants) e = absurd (true≢false (sym (ap names_zone e)))
-same_words (Loose name mass pieces) (Loose name' mass' pieces') e =
+same_rest (Cabin zone adults children infants) (Loose name mass pieces) e = absurd (true≢false (ap names_zone e))
+same_rest (Loose name mass pieces) (Cabin zone adults children infants) e = absurd (true≢false (sym (ap names_zone e)))
+same_rest (Loose name mass pieces) (Loose name' mass' pieces') e =
     let n : name ≡ name' = cc in
     let m : signed_text mass ≡ signed_text mass' = cc in
     let p : signed_text pieces ≡ signed_text pieces' = cc in
     λ j. Loose (n j) (signed_text-injective mass mass' m j) (signed_text-injective pieces pieces' p j)
 
-pub change_once : (x y : Lmc) → IsSpelledChange x → IsSpelledChange y → change_line x ≡ change_line y → x ≡ y
-change_once x y s t e = same_words x y (sym (change_words-are (change_line x) x s refl) ∙ change_words-are (change_line x) y t e)
+change_words : AreWords (codes "lmc") change_rest IsSpelledChange
+change_words = record { letters = refl; clear = rest_clear; once = same_rest }
+
+pub changes : IsLineKind change_line IsSpelledChange
+changes =
+    let kind = line_kind change_words in
+    record { once = λ x y s t e. kind.once x y s t (sym (change_is x) ∙ e ∙ change_is y); avoids = λ x s. subst (Avoids 10) (sym (change_is x)) (kind.avoids x s) }
+
+change_words-are : (line : List ℕ) (x : Lmc) → IsSpelledChange x → line ≡ change_line x → words_in line ≡ codes "lmc" ∷ change_rest x
+change_words-are line x s e = words_are change_words line x s (e ∙ change_is x)
 
 -- Words that were read as a change -------------------------------------------------------------------
 
@@ -122,7 +107,8 @@ no_cabin line words e none (Cabin zone adults children infants) s is =
     none zone adults children infants s (cc (e, w))
 no_cabin line words e none (Loose name mass pieces) s is =
     let w = change_words-are line (Loose name mass pieces) s is in
-    true≢false (ap names_zone (sym e ∙ w))
+    let rest : codes "zone" ∷ words ≡ change_rest (Loose name mass pieces) = cc (e, w) in
+    true≢false (ap names_zone rest)
 
 pub no_bulk : (line : List ℕ) (words : Words) → words_in line ≡ codes "lmc" ∷ codes "bulk" ∷ words
     → ((name : List ℕ) (mass pieces : ℤ) → IsSpelledChange (Loose name mass pieces) → words ≡ name ∷ signed_text mass ∷ signed_text pieces ∷ [] → ⊥)
@@ -132,14 +118,5 @@ no_bulk line words e none (Loose name mass pieces) s is =
     none name mass pieces s (cc (e, w))
 no_bulk line words e none (Cabin zone adults children infants) s is =
     let w = change_words-are line (Cabin zone adults children infants) s is in
-    true≢false (sym (ap names_zone (sym e ∙ w)))
-
-pub no_other : (line kind : List ℕ) (words : Words) → words_in line ≡ codes "lmc" ∷ kind ∷ words → kind ≢ codes "zone" → kind ≢ codes "bulk" → (change : Lmc) → IsSpelledChange change → line ≡ change_line change → ⊥
-no_other line kind words e not_zone not_bulk (Cabin zone adults children infants) s is =
-    let w = change_words-are line (Cabin zone adults children infants) s is in not_zone (cc (e, w))
-no_other line kind words e not_zone not_bulk (Loose name mass pieces) s is =
-    let w = change_words-are line (Loose name mass pieces) s is in not_bulk (cc (e, w))
-
-pub no_kind : (line : List ℕ) → words_in line ≡ codes "lmc" ∷ [] → (change : Lmc) → IsSpelledChange change → line ≡ change_line change → ⊥
-no_kind line e (Cabin zone adults children infants) s is = let w = change_words-are line (Cabin zone adults children infants) s is in absurd (cc (e, w))
-no_kind line e (Loose name mass pieces) s is = let w = change_words-are line (Loose name mass pieces) s is in absurd (cc (e, w))
+    let rest : codes "bulk" ∷ words ≡ change_rest (Cabin zone adults children infants) = cc (e, w) in
+    true≢false (sym (ap names_zone rest))

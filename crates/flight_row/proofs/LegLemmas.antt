@@ -1,23 +1,19 @@
 -- the texts of a leg contain no space and no end of a line
-use Rattle.std.proofs.Common.{◌≡◌, ⊎_elim, ℕ, ◌-◌, ◌<◌, ◌≤◌, Bool, true, false, ◌&&◌, eqb, ◌∷◌, ◌++◌, List, [], length, get_or, sym, ◌∙◌, ap, subst, arith, codes, lit<, take, drop, refl, Some, None}
+use Rattle.std.proofs.Common.{◌≡◌, ⊎_elim, ℕ, ◌-◌, ◌<◌, ◌≤◌, Bool, true, false, ◌&&◌, eqb, ◌∷◌, ◌++◌, List, [], length, get_or, sym, ◌∙◌, ap, subst, arith, codes, take, drop, refl, Some, None}
 use Rattle.std.specs.Prelude.{nat_le, ◌==◌, slice_get}
 use Rattle.std.specs.List.{list_all}
 use Rattle.std.specs.Option.{option_map_or}
 use Rattle.std.specs.Str.Parse.{digits_value}
 use Rattle.std.proofs.lemmas.Bool.{and_parts, or_cases, cases_Bool, cases_lt, cond-true, cond-false, leb-true, ne_eqb}
 use Rattle.std.proofs.lemmas.List.{get_or-take, length-take-le, take-append-drop}
-use Rattle.std.proofs.lemmas.List.Elements.{All-nil, All-cons, All-append, All-same, All-from_get_or, All-from_recursion}
+use Rattle.std.proofs.lemmas.List.Elements.{All-nil, All-cons, All-append, All-same, All-from_get_or}
 use Rattle.std.proofs.lemmas.Option.{slice_get-get_or, none-some, cond_some}
 use Rattle.aircraft_file.specs.Spellings.{is_registration, spelled}
 use Rattle.flight_state.specs.Spellings.{is_capital, is_digit, is_capital_or_digit, is_long, without_suffix, is_flight_number, is_flight_name, is_day, is_station}
 use Rattle.flight_state.specs.Legs.{IsSpelledLeg}
 use Rattle.flight_state.specs.declared.leg.Leg.{Leg}
 use Rattle.text_lines.specs.Cuts.{Avoids}
-use Rattle.text_lines.proofs.WordLemmas.{plain_word}
-use Rattle.flight_row.specs.Words.{words_in}
-use Rattle.flight_row.specs.RowText.{leg_line}
-use Rattle.flight_row.proofs.WordLemmas.{words-line_of, line-avoids}
-use Rattle.flight_row.proofs.LineLemmas.{AreClear}
+use Rattle.flight_row.proofs.LineLemmas.{AreWords}
 
 tests_avoid : (test : ℕ → Bool) (k : ℕ) → ((c : ℕ) → test c ≡ true → eqb c k ≡ false) → (text : List ℕ) → list_all test text ≡ true → Avoids k text
 tests_avoid test k apart [] e = All-nil (λ b. eqb b k ≡ false)
@@ -82,30 +78,18 @@ registration_avoids k text low e = tests_avoid is_capital_or_digit k (λ c. lett
 
 -- the line of a leg
 
-abbrev pub leg_rest : Leg → List (List ℕ)
-leg_rest x = x.flight ∷ x.day ∷ x.registration ∷ x.origin ∷ x.destination ∷ []
-
-leg_clear : (k : ℕ) → k < 45 → Avoids k (codes "leg") → (x : Leg) → IsSpelledLeg x → AreClear k (codes "leg" ∷ leg_rest x)
-leg_clear k low plain x s =
-    All-from_recursion (Avoids k) (codes "leg" ∷ leg_rest x) (
-      plain,
-      (
-        flight_avoids k x.flight low s.flight,
-        (
-          day_avoids k x.day low s.day,
-          (
-            registration_avoids k x.registration low s.registration,
-            (station_avoids k x.origin low s.origin, (station_avoids k x.destination low s.destination, tt)),
-          ),
-        ),
-      ),
-    )
-
-pub leg_words : (line : List ℕ) (x : Leg) → IsSpelledLeg x → line ≡ leg_line x → words_in line ≡ codes "leg" ∷ x.flight ∷ x.day ∷ x.registration ∷ x.origin ∷ x.destination ∷ []
-leg_words line x s e = ap words_in e ∙ words-line_of (codes "leg") (leg_rest x) (leg_clear 32 (lit< tt) (plain_word 32 (codes "leg") refl) x s)
-
-pub leg_avoids : (x : Leg) → IsSpelledLeg x → Avoids 10 (leg_line x)
-leg_avoids x s = line-avoids (codes "leg") (leg_rest x) (leg_clear 10 (lit< tt) (plain_word 10 (codes "leg") refl) x s)
+pub leg_words : AreWords (codes "leg") (λ (x : Leg). x.flight ∷ x.day ∷ x.registration ∷ x.origin ∷ x.destination ∷ []) IsSpelledLeg
+leg_words = record {
+  letters = refl;
+  clear = λ k low x s. (flight_avoids k x.flight low s.flight, (day_avoids k x.day low s.day, (registration_avoids k x.registration low s.registration, (station_avoids k x.origin low s.origin, (station_avoids k x.destination low s.destination, tt)))));
+  once = λ x y e.
+      let flight : x.flight ≡ y.flight = cc (e) in
+      let day : x.day ≡ y.day = cc (e) in
+      let registration : x.registration ≡ y.registration = cc (e) in
+      let origin : x.origin ≡ y.origin = cc (e) in
+      let destination : x.destination ≡ y.destination = cc (e) in
+      λ i. record { flight = flight i; day = day i; registration = registration i; origin = origin i; destination = destination i };
+}
 
 -- texts that were read as one of a spelling ----------------------------------------------------------
 

@@ -1,5 +1,5 @@
 -- the flight that a row stands for
-use Rattle.std.proofs.Common.{◌≡◌, ℕ, ◌-◌, ◌≤◌, ◌<◌, Bool, true, ◌&&◌, ℤ, ◌∷◌, List, [], length, map, set, replicate, refl, sym, ◌∙◌, ap, subst, arith, All, Option, Some, None}
+use Rattle.std.proofs.Common.{◌≡◌, ℕ, ◌-◌, ◌≤◌, ◌<◌, Bool, true, ◌&&◌, ◌∷◌, List, [], length, map, set, replicate, refl, sym, ◌∙◌, ap, subst, arith, All, Option, Some, None}
 use Rattle.std.specs.Prelude.{IfSome, nat_le, find, position, bytes_eq, unwrap_or, option_map}
 use Rattle.std.proofs.lemmas.Bool.{and_parts, leb-true, cond_both}
 use Rattle.std.proofs.lemmas.Option.{same_Some, none-some, cond_some}
@@ -29,8 +29,8 @@ use Rattle.flight_row.specs.RowText.{row_text}
 use Rattle.flight_row.specs.declared.row.Version.TheVariants.{Two}
 use Rattle.flight_state.specs.Legs.{IsSpelledLeg}
 use Rattle.flight_row.specs.Loading.IsLoaded.{unplanned, planned, dropped}
-use Rattle.flight_row.proofs.RestLemmas.{no_changes}
-use Rattle.flight_row.proofs.RowOnce.{spelled_once}
+use Rattle.flight_row.proofs.PartSteps.{no_changes}
+use Rattle.flight_row.proofs.RowParts.{spelled_once}
 use Rattle.flight_row.proofs.PlanLemmas.{AreDifferent, plan_once}
 use Rattle.flight_row.proofs.StageLemmas.{told-releases, plan-for-some, plan-for-none}
 
@@ -234,11 +234,11 @@ pub record HasTexts (a : Craft) (s : FlightState) : Type 0 where
   pub plan : IfSome (plan_names a.hold.positions s) IsSpelledPlan
   pub changes : AreSpelledChanges s.base s.stage s.lmcs
 
-found_named : (test : LooseFigure → Bool) (loads : List LooseFigure) (other : LooseFigure) → IsNamedLoad other → All IsNamedLoad loads → IsNamedLoad (unwrap_or (find test loads) other)
-found_named test [] other named each = named
-found_named test (load ∷ loads) other named each =
-    cond_both (test load) (Some load) (find test loads) (λ (o : Option LooseFigure). IsNamedLoad (unwrap_or o other))
-    (λ yes. All-head IsNamedLoad load loads each) (λ no. found_named test loads other named (All-tail IsNamedLoad load loads each))
+-- what holds of each load, and of the other one, holds of the load that is found, or of the other
+pub found_load : (P : LooseFigure → Type 0) (test : LooseFigure → Bool) (loads : List LooseFigure) (other : LooseFigure) → P other → All P loads → P (unwrap_or (find test loads) other)
+found_load P test [] other right each = right
+found_load P test (load ∷ loads) other right each =
+    cond_both (test load) (Some load) (find test loads) (λ (o : Option LooseFigure). P (unwrap_or o other)) (λ yes. All-head P load loads each) (λ no. found_load P test loads other right (All-tail P load loads each))
 
 put_named : (place : Option ℕ) (load : LooseFigure) (loads : List LooseFigure) → IsNamedLoad load → All IsNamedLoad loads → All IsNamedLoad (put_load place load loads)
 put_named (Some at) load loads named each = All-set IsNamedLoad loads at load named each
@@ -252,7 +252,7 @@ loads_named f (Cabin zone adults children infants ∷ changes) loads each =
 loads_named f (Loose name mass pieces ∷ changes) loads each =
     let l : Lmc = Loose name mass pieces in
     let named = All-head IsSpelledChange l changes each in
-    let load = found_named (is_at name) f.loose (nothing_at name) named.0 loads in
+    let load = found_load IsNamedLoad (is_at name) f.loose (nothing_at name) named.0 loads in
     loads_named (with_change f l) changes (put_named (place_at name f.loose) (changed_load (load_at name f.loose) mass pieces) f.loose load loads) (All-tail IsSpelledChange l changes each)
 
 items_named : (f : Figures) → AreSpelledFigures f → All (λ (item : Item). IsUldId item.id) f.containers

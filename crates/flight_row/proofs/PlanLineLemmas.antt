@@ -1,14 +1,14 @@
 -- the line of a plan, name by name
-use Rattle.std.proofs.Common.{◌≡◌, ℕ, ◌+◌, ◌<◌, ◌≤◌, ◌∷◌, ◌++◌, List, [], length, refl, sym, ◌∙◌, ap, subst, arith, All, codes, lit≤}
+use Rattle.std.proofs.Common.{◌≡◌, ℕ, ◌+◌, ◌<◌, ◌≤◌, ◌∷◌, ◌++◌, List, [], length, refl, sym, ◌∙◌, ap, subst, arith, All, codes}
 use Rattle.std.proofs.lemmas.List.{append-nil}
-use Rattle.std.proofs.lemmas.List.Elements.{All-nil, All-head, All-tail}
+use Rattle.std.proofs.lemmas.List.Elements.{All-head, All-tail}
 use Rattle.hold_parts.specs.Spellings.{IsName}
 use Rattle.text_lines.specs.Lines.{line_of}
 use Rattle.flight_row.specs.Words.{words_in}
 use Rattle.flight_row.specs.RowText.{plan_line}
 use Rattle.flight_row.specs.Spelled.{IsSpelledPlan}
 use Rattle.flight_row.proofs.WordLemmas.{line_of-words}
-use Rattle.flight_row.proofs.LineLemmas.{plan_words}
+use Rattle.flight_row.proofs.LineLemmas.{words_are, plan_words}
 
 abbrev Words : Type 0
 Words = List (List ℕ)
@@ -18,9 +18,6 @@ pub record AreNamesSoFar (line : List ℕ) (names words : Words) : Type 0 where
   pub read : words_in line ≡ codes "plan" ∷ (names ++ words)
   pub named : All IsName names
   pub few : length names ≤ 60
-
-pub no_name : (line : List ℕ) (words : Words) → words_in line ≡ codes "plan" ∷ words → AreNamesSoFar line [] words
-no_name line words e = record { read = e; named = All-nil IsName; few = lit≤ tt }
 
 pub all_names : (line : List ℕ) (names words : Words) → AreNamesSoFar line names words → words ≡ [] → IsSpelledPlan names × (line ≡ plan_line names)
 all_names line names words so none =
@@ -41,7 +38,7 @@ behind (n ∷ names) (o ∷ others) words e named w ws is =
     (again.0, omega (arith, less))
 
 others_are : (line : List ℕ) (names words others : Words) → AreNamesSoFar line names words → IsSpelledPlan others → line ≡ plan_line others → names ++ words ≡ others
-others_are line names words others so s e = let w = plan_words line others s e in cc (w, so.read)
+others_are line names words others so s e = let w = words_are plan_words line others s e in cc (w, so.read)
 
 -- the next word is no name
 pub wrong_name : (line : List ℕ) (names words : Words) → AreNamesSoFar line names words → (words ≡ [] → ⊥) → ((name : List ℕ) (rest : Words) → IsName name → words ≡ name ∷ rest → ⊥) → (others : Words) → IsSpelledPlan others → line ≡ plan_line others → ⊥

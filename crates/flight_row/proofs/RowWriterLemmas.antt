@@ -10,9 +10,10 @@ use Rattle.std.proofs.lemmas.List.{append_assoc, append-nil}
 use Rattle.arrayvec.specs.ArrayVec.{ArrayVec}
 use Rattle.hold_parts.specs.declared.parts.Position.{Position}
 use Rattle.hold_limits.specs.Layout.{name_at}
-use Rattle.text_lines.specs.Lines.{line_of, text_of}
+use Rattle.text_lines.specs.Lines.{text_of}
 use Rattle.text_lines.specs.WordRuns.{run_text, name_text}
 use Rattle.text_lines.proofs.SectionLemmas.{text_of-append}
+use Rattle.text_lines.proofs.NameRuns.{line_of-names}
 use Rattle.trim.specs.declared.figures.Figures.{Figures}
 use Rattle.flight_state.specs.declared.leg.Leg.{Leg}
 use Rattle.flight_state.specs.declared.state.Stage.{Stage}
@@ -59,18 +60,13 @@ base_written f start t1 t2 t3 t4 t5 t6 e1 e2 e3 e4 e5 e6 =
     let a5 = with_lines start (d ∷ u ∷ l ∷ Z) C t4 t5 a4 e5 in
     with_lines start (d ∷ u ∷ l ∷ (Z ++ C)) L t5 t6 a5 e6
 
--- a word and the names of positions, as a line
-plan_text : (word : List ℕ) (ps : List Position) (path : List ℕ) → line_of (word ∷ map (name_at ps) path) ≡ word ++ run_text (name_text ps) path
-plan_text word ps [] = sym (append-nil word)
-plan_text word ps (q ∷ path) = ap (λ t. word ++ 32 ∷ t) (plan_text (name_at ps q) ps path)
-
 pub plan_written : (ps : List Position) (s : FlightState) (path : ArrayVec ℕ) (numbers start t1 t2 t3 : List ℕ) → s.plan ≡ Some path → numbers ≡ path.items → t1 ≡ start ++ codes "plan" → t2 ≡ t1 ++ run_text (name_text ps) numbers → t3 ≡ t2 ++ 10 ∷ []
     → t3 ≡ start ++ text_of (plan_lines (plan_names ps s))
 plan_written ps s path numbers start t1 t2 t3 planned are e1 e2 e3 =
     let run = run_text (name_text ps) path.items in
     let a2 : t2 ≡ start ++ (codes "plan" ++ run) = e2 ∙ ap (λ ns. t1 ++ run_text (name_text ps) ns) are ∙ ap (λ t. t ++ run) e1 ∙ append_assoc start (codes "plan") run in
     e3 ∙ ap (λ t. t ++ 10 ∷ []) a2 ∙ append_assoc start (codes "plan" ++ run) (10 ∷ [])
-    ∙ ap (λ line. start ++ (line ++ 10 ∷ [])) (sym (plan_text (codes "plan") ps path.items))
+    ∙ ap (λ line. start ++ (line ++ 10 ∷ [])) (sym (line_of-names (codes "plan") ps path.items))
     ∙ ap (λ o. start ++ text_of (plan_lines (option_map (λ (plan : ArrayVec ℕ). map (name_at ps) plan.items) o))) (sym planned)
 
 -- all parts of a row

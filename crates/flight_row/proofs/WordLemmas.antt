@@ -65,6 +65,3 @@ none_then (Some x) f none = tt
 
 pub same_text : (a b : List ℕ) (equal : Bool) → equal ≡ true → equal ≡ bytes_eq a b → a ≡ b
 same_text a b equal holds is = (bytes_eq-Decides a b).0 (sym is ∙ holds)
-
-pub other_text : (a b : List ℕ) (equal : Bool) → equal ≡ false → equal ≡ bytes_eq a b → a ≢ b
-other_text a b equal fails is e = false≢true (sym fails ∙ is ∙ (bytes_eq-Decides a b).1 e)

@@ -1,7 +1,7 @@
 -- a row that was written is read back
 use Rattle.std.proofs.Common.{◌≡◌, ⊎_elim, ℕ, ◌+◌, ◌-◌, ◌≤◌, ◌<◌, Bool, true, false, ◌&&◌, ℤ, pos, ◌+ℤ◌, unsigned_abs, ◌∷◌, List, [], length, map, get_or, sym, ◌∙◌, ap, subst, arith, All, Option, Some, None}
 use Rattle.std.specs.Prelude.{IfSome, nat_le, int_le, find, unwrap_or, bytes_eq, option_map}
-use Rattle.std.proofs.lemmas.Bool.{and_parts, leb-true, cond_both, cases_lt, cases_Bool, cond-true, cond-false}
+use Rattle.std.proofs.lemmas.Bool.{and_parts, leb-true, cases_lt, cases_Bool, cond-true, cond-false}
 use Rattle.hold_limits.proofs.EnumerationLemmas.{int_le-Decides}
 use Rattle.std.proofs.lemmas.Int.{ints}
 use Rattle.std.proofs.lemmas.List.{length-map}
@@ -32,7 +32,7 @@ use Rattle.flight_row.specs.declared.row.Version.TheVariants.{Two}
 use Rattle.flight_row.specs.RowText.{row_text}
 use Rattle.flight_row.specs.Spelled.{IsSpelledPlan, IsSpelledChange, IsNamedChange}
 use Rattle.flight_row.specs.Loading.{HasRow, KeepsPlan, Reads, aircraft_of, row_of}
-use Rattle.flight_row.proofs.LoadLemmas.{HasTexts, reads_again}
+use Rattle.flight_row.proofs.LoadLemmas.{HasTexts, found_load, reads_again}
 
 -- a change that leaves a number within its limit is itself within it
 small_change : (most n : ℕ) (z : ℤ) → n ≤ most → stays_within most n z ≡ true → unsigned_abs z ≤ most
@@ -51,12 +51,6 @@ count_few zone cabin each = ⊎_elim
     subst HasFewPassengers (sym none) (omega arith, omega arith, omega arith))
     (cases_lt (zone - 1) (length cabin))
 
-found_within : (test : LooseFigure → Bool) (loads : List LooseFigure) (other : LooseFigure) → IsLooseWithin other → All IsLooseWithin loads → IsLooseWithin (unwrap_or (find test loads) other)
-found_within test [] other within each = within
-found_within test (load ∷ loads) other within each =
-    cond_both (test load) (Some load) (find test loads) (λ (o : Option LooseFigure). IsLooseWithin (unwrap_or o other))
-    (λ yes. All-head IsLooseWithin load loads each) (λ no. found_within test loads other within (All-tail IsLooseWithin load loads each))
-
 change_spelled : (f : Figures) (l : Lmc) → AreWithin f → can_add f l ≡ true → IsNamedChange l → IsSpelledChange l
 change_spelled f (Cabin zone adults children infants) w e named =
     let count = count_in zone f.cabin in
@@ -68,7 +62,7 @@ change_spelled f (Cabin zone adults children infants) w e named =
     (leb-true 1 zone zones.0, leb-true zone 16 zones.1, small_change 999 count.adults adults few.0 counts.0, small_change 999 count.children children few.1 others.0, small_change 999 count.infants infants few.2 others.1)
 change_spelled f (Loose name mass pieces) w e named =
     let load = load_at name f.loose in
-    let within = found_within (is_at name) f.loose (nothing_at name) (omega arith, omega arith) w.loose in
+    let within = found_load IsLooseWithin (is_at name) f.loose (nothing_at name) (omega arith, omega arith) w.loose in
     let parts = and_parts (stays_within 1000000 load.mass.0 mass) (stays_within 999 load.pieces pieces && nat_le (count_with name f.loose) 64) e in
     let others = and_parts (stays_within 999 load.pieces pieces) (nat_le (count_with name f.loose) 64) parts.1 in
     (named, small_change 1000000 load.mass.0 mass within.0 parts.0, small_change 999 load.pieces pieces within.1 others.0)

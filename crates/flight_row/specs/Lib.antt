@@ -2,6 +2,5 @@ pub mod Words
 pub mod RowText
 pub mod Spelled
 pub mod Loading
-pub mod Grammar
 pub mod Refusals
 pub mod Reading

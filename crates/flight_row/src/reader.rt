@@ -1,21 +1,19 @@
 //! The reader of a row's text.
 
-ghost use Rattle.std.specs.Prelude.{◌≡◌, Some, find, bytes_eq, IfOk, IfErr, MatchResult};
+ghost use Rattle.std.specs.Prelude.{◌≡◌, ◌≤◌, ◌⊎◌, ℕ, List, Some, length, option_to_list, find, bytes_eq, IfOk, IfErr, MatchResult};
 ghost use Rattle.std.specs.Option.{option_copied};
 ghost use Rattle.text_lines.specs.Grammar.{Fails};
-ghost use Rattle.text_lines.specs.Lines.{text_of};
+ghost use Rattle.text_lines.specs.Lines.{text_of, IsStopped};
+ghost use Rattle.text_lines.specs.Sections.{ArePart, IsOfKind};
 ghost use Rattle.text_lines.specs.declared.fault.LineFault.{LineFault};
 ghost use Rattle.trim.specs.declared.figures.Figures.{Figures};
-ghost use Rattle.flight_state.specs.declared.state.Stage.{Stage};
 ghost use Rattle.flight_row.specs.declared.row.Version.{Version};
-ghost use Rattle.flight_row.specs.Grammar.{FromLeg, FromReleases, FromDry, FromPlan, FromChanges};
-ghost use Rattle.flight_row.specs.Reading.{HasRead, head_lines, IsSpelledHead, IsPlanFor, rest_lines};
-ghost use Rattle.flight_row.specs.RowText.{releases_lines, figure_lines, plan_lines};
-ghost use Rattle.flight_row.specs.Spelled.{AreReleases, AreSpelledFigures, AreSpelledChanges, Spells};
+ghost use Rattle.flight_row.specs.Reading.{KnowsVersion, KnowsHead, KnowsFigures, AreFromLeg, AreFromDry, AreFromPlan, leg_part, dry_part, plan_part, HasRead, IsSpelledHead, SaysReleases, IsPlanFor, NeedsPlan, most_plans, row_with};
+ghost use Rattle.flight_row.specs.RowText.{releases_line, plan_line, row_text};
+ghost use Rattle.flight_row.specs.Spelled.{AreToldReleases, IsSpelledPlan, AreSpelledFigures, Spells};
 ghost use Rattle.aircraft_file.specs.Craft.{Craft};
 ghost use Rattle.flight_state.specs.declared.state.FlightState.{FlightState};
 ghost use Rattle.flight_row.specs.declared.row.Version.TheVariants.{Two};
-ghost use Rattle.flight_row.specs.RowText.{row_text};
 ghost use Rattle.flight_row.specs.Loading.{HasRow, KeepsPlan, Reads, aircraft_of, row_of};
 ghost use Rattle.flight_row.specs.Refusals.{AreRow, IsRefused};
 
@@ -91,7 +89,7 @@ fn read_lines(alloc: Global, text: &[u8]) -> Result<Row, LineFault>
     let version = next_said(alloc, &VersionLine, &mut lines)?;
     let head = read_head(alloc, version, &mut lines)?;
     let base = read_figures(alloc, &mut lines)?;
-    let (plan, lmcs) = read_rest(alloc, &base, head.stage, &mut lines)?;
+    let (plan, lmcs) = read_rest(alloc, &head, &base, &mut lines)?;
     Ok(Row {
         leg: head.leg,
         edition: head.edition,
@@ -106,9 +104,9 @@ fn read_lines(alloc: Global, text: &[u8]) -> Result<Row, LineFault>
 /// The leg, the edition, the stage, and the number of releases.
 fn read_head(alloc: Global, version: Version, lines: &mut Lines<'_>) -> Result<Head, LineFault>
     ensures spelled { IfOk result (IsSpelledHead version) }
-    ensures read { IfOk result (λ head. HasRead (FromLeg version) (FromDry head.stage)
-        lines.old.rest.now lines.new.rest.now lines.old.number lines.new.number (head_lines version head)) }
-    ensures refused { IfErr result (Fails (FromLeg version) lines.old.rest.now lines.old.number) }
+    ensures read { IfOk result (λ head. HasRead (KnowsVersion version) (KnowsHead version head) leg_part dry_part
+        lines.old.rest.now lines.new.rest.now lines.old.number lines.new.number) }
+    ensures refused { IfErr result (Fails (AreFromLeg version) lines.old.rest.now lines.old.number) }
 {
     let leg = next_said(alloc, &LegLine, lines)?;
     let edition = next_said(alloc, &EditionLine, lines)?;
@@ -129,10 +127,10 @@ fn next_releases(
     stage: Stage,
     lines: &mut Lines<'_>,
 ) -> Result<u32, LineFault>
-    ensures spelled { IfOk result (AreReleases version stage) }
-    ensures read { IfOk result (λ releases. HasRead (FromReleases version stage) (FromDry stage)
-        lines.old.rest.now lines.new.rest.now lines.old.number lines.new.number (releases_lines version releases)) }
-    ensures refused { IfErr result (Fails (FromReleases version stage) lines.old.rest.now lines.old.number) }
+    ensures read { IfOk result (SaysReleases version stage
+        lines.old.rest.now lines.new.rest.now lines.old.number lines.new.number) }
+    ensures refused { IfErr result (λ fault. (fault ≡ LineFault.NoMemory)
+        ⊎ ((version ≡ Two) × IsStopped lines.old.rest.now lines.old.number (IsOfKind releases_line (AreToldReleases stage)) fault)) }
 {
     match version {
         Version::One => Ok(first_releases(stage)),
@@ -143,10 +141,11 @@ fn next_releases(
 /// The figures before the late changes.
 fn read_figures(alloc: Global, lines: &mut Lines<'_>) -> Result<Figures, LineFault>
     ensures spelled { IfOk result AreSpelledFigures }
-    ensures read { IfOk result (λ figures. (stage : Stage) → HasRead (FromDry stage) (FromPlan figures stage)
-        lines.old.rest.now lines.new.rest.now lines.old.number lines.new.number (figure_lines figures)) }
-    ensures refused { IfErr result (λ fault. (stage : Stage)
-        → Fails (FromDry stage) lines.old.rest.now lines.old.number fault) }
+    ensures read { IfOk result (λ base. (version : Version) (head : Head)
+        → HasRead (KnowsHead version head) (KnowsFigures version head base) dry_part plan_part
+        lines.old.rest.now lines.new.rest.now lines.old.number lines.new.number) }
+    ensures refused { IfErr result (λ fault. (version : Version) (head : Head) → IsSpelledHead version head
+        → Fails (AreFromDry version head) lines.old.rest.now lines.old.number fault) }
 {
     let dry = next_said(alloc, &DryLine, lines)?;
     let fuel = next_said(alloc, &FuelLine, lines)?;
@@ -167,17 +166,18 @@ fn read_figures(alloc: Global, lines: &mut Lines<'_>) -> Result<Figures, LineFau
 /// The plan and the late changes, up to the end of the text.
 fn read_rest(
     alloc: Global,
+    head: &Head,
     base: &Figures,
-    stage: Stage,
     lines: &mut Lines<'_>,
 ) -> Result<(Option<PlanNames>, Lmcs), LineFault>
-    ensures plan { IfOk result (λ said. IsPlanFor stage said.0) }
-    ensures changes { IfOk result (λ said. AreSpelledChanges base.now stage said.1) }
-    ensures read { IfOk result (λ said. lines.old.rest.now ≡ text_of (rest_lines said.0 said.1)) }
-    ensures refused { IfErr result (Fails (FromPlan base.now stage) lines.old.rest.now lines.old.number) }
+    ensures read { IfOk result (λ said. (version : Version) → IsSpelledHead version head.now → AreSpelledFigures base.now
+        → KnowsFigures version head.now base.now (version, row_with head.now base.now said.0 said.1)
+        × (lines.old.rest.now ≡ text_of (plan_part (version, row_with head.now base.now said.0 said.1)))) }
+    ensures refused { IfErr result (λ fault. (version : Version) → IsSpelledHead version head.now → AreSpelledFigures base.now
+        → Fails (AreFromPlan version head.now base.now) lines.old.rest.now lines.old.number fault) }
 {
-    let plan = read_plan_for(alloc, stage, lines)?;
-    let lmcs = read_changes(alloc, base, stage, lines)?;
+    let plan = read_plan_for(alloc, head.stage, lines)?;
+    let lmcs = read_changes(alloc, base, head.stage, lines)?;
     expect_line(b"END", lines)?;
     if !lines.rest.is_empty() {
         return Err(LineFault::Line(lines.number));
@@ -192,10 +192,10 @@ fn read_plan_for(
     lines: &mut Lines<'_>,
 ) -> Result<Option<PlanNames>, LineFault>
     ensures plan { IfOk result (IsPlanFor stage) }
-    ensures read { IfOk result (λ plan. (figures : Figures) → HasRead (FromPlan figures stage) (FromChanges figures stage)
-        lines.old.rest.now lines.new.rest.now lines.old.number lines.new.number (plan_lines plan)) }
-    ensures refused { IfErr result (λ fault. (figures : Figures)
-        → Fails (FromPlan figures stage) lines.old.rest.now lines.old.number fault) }
+    ensures read { IfOk result (λ plan. ArePart plan_line IsSpelledPlan (λ (plans : List (List (List ℕ))). length plans ≤ most_plans stage)
+        lines.old.rest.now lines.new.rest.now lines.old.number lines.new.number (option_to_list plan)) }
+    ensures refused { IfErr result (λ fault. (fault ≡ LineFault.NoMemory)
+        ⊎ (NeedsPlan stage × IsStopped lines.old.rest.now lines.old.number (IsOfKind plan_line IsSpelledPlan) fault)) }
 {
     match stage {
         Stage::Working => Ok(None),

@@ -1,4 +1,4 @@
-use Rattle.std.proofs.Common.{◌≡◌, ◌∙◌, ℕ, Some, None, ap, sym, subst, arith}
+use Rattle.std.proofs.Common.{◌≡◌, ◌∙◌, Some, None, ap, sym, subst, arith}
 use Rattle.std.specs.Prelude.{position, bytes_eq}
 use Rattle.hold_limits.specs.Layout.{Layout}
 use Rattle.hold_parts.specs.declared.parts.Position.{Position}

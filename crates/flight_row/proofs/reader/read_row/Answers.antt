@@ -3,7 +3,7 @@ use Rattle.std.proofs.lemmas.Result.{err_from_is_err_and}
 use Rattle.flight_row.specs.Refusals.{row_fault}
 use Rattle.flight_row.specs.Refusals.IsRefused.{wrong_lines, no_aircraft, no_memory}
 use Rattle.flight_row.proofs.PlanLemmas.{names_differ}
-use Rattle.flight_row.proofs.RowOnce.{spelled_has_no_fault}
+use Rattle.flight_row.proofs.RowParts.{spelled_has_no_fault}
 use Rattle.flight_row.proofs.LoadLemmas.{reads_once, no_reads, kept_row, renewed_row}
 use Rattle.flight_row.proofs.reader.read_row.Goals as goal
 
