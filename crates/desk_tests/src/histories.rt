@@ -2,15 +2,15 @@
 ghost use Rattle.std.specs.Prelude.{◌≡◌, [], IfOk};
 
 use base_words::NoMemory;
-use desk_bodies::read_leg;
 use flight_history::{Act, Entry, FigurePart, Outcome, standing_after};
-use flight_state::{FlightKey, FlightState, Leg, Lmc, Lmcs, Stage};
+use flight_state::{FlightState, Lmc, Lmcs, Stage};
 use hold_limits::Path;
 use mass_units::{Kg, Ticks};
 use payload::Cabin;
 use std::alloc::{AllocError, Global};
 use std::test::Fail;
 use trim::{Dry, Figures, Fuel, Items, LooseList, Regulated};
+use worked_day::{key, leg};
 
 fn figures(alloc: Global) -> Figures {
     Figures {
@@ -35,18 +35,11 @@ fn figures(alloc: Global) -> Figures {
     }
 }
 
-/// The leg, as a body has it: each of its names read by itself would take longer to prove.
-fn leg(alloc: Global) -> Result<Leg, NoMemory> {
-    let body =
-        br#"{"flight":"XX210","day":12,"registration":"DAIAB","origin":"FRA","destination":"ARN"}"#;
-    read_leg(alloc, body).map_err(|_| NoMemory)
-}
-
 /// A line of the history: an act about the flight that was accepted.
 fn push(entries: &mut Vec<Entry>, act: Act) -> Result<(), NoMemory> {
     let entry = Entry {
         desk: 1,
-        key: FlightKey::read(b"XX210-12").ok_or(NoMemory)?,
+        key: key()?,
         act,
         outcome: Outcome::Done,
     };
@@ -107,7 +100,7 @@ fn begun(alloc: Global) -> Result<FlightState, NoMemory>
     ensures { IfOk result (λ s. s.lmcs ≡ []) }
 {
     Ok(FlightState {
-        leg: leg(alloc)?,
+        leg: leg()?,
         edition: 4,
         stage: Stage::Working,
         base: figures(alloc),

@@ -8,20 +8,7 @@ use std::alloc::Global;
 use std::str;
 use std::test::Fail;
 use telex::{Part, TelexFault};
-
-const LDM: &str = "LDM
-XX210/12.DAIAB.Y150.2/4
--ARN.120/10/3.T2120.1/1000.4/800.5/320.PAX/130
-";
-
-const CPM: &str = "CPM
-XX210/12.DAIAB.Y150
--11/AKE10001XX/ARN/1000
--12/N
--41/N
--42/AKE10002XX/ARN/800
--51/ARN/320
-";
+use worked_day::{CPM, LDM};
 
 /// A row of places: a name, the number of its compartment, the identity of its container, if it has one, and a mass.
 type Row = (&'static [u8], u8, Option<&'static [u8]>, u32);

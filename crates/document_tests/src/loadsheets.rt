@@ -1,5 +1,5 @@
 // The worked loadsheet, its corners, and sheets of random figures beside a plain second writer.
-use crate::sheets::{leg, next, worked};
+use crate::sheets::{next, worked};
 use aircraft_file::Version;
 use hold_limits::Name;
 use last_minute::{Lmc, Lmcs, PlaceList, Sheet};
@@ -10,26 +10,7 @@ use std::alloc::Global;
 use std::str;
 use std::test::Fail;
 use trim::{Balance, Dry, Fuel, Regulated};
-
-const WORKED: &str = "LOADSHEET
-XX210/12.DAIAB.FRA.ARN
-EDNO 7
-PAX 130/3
-CABIN 10460
-CONTAINERS 1800
-LOOSE 320
-TRAFFIC LOAD 12580
-DRY OPERATING WEIGHT 42000
-ZERO FUEL WEIGHT 54580 MAX 62500 L
-TAKE OFF FUEL 9000
-TAKE OFF WEIGHT 63580 MAX 73500
-TRIP FUEL 6000
-LANDING WEIGHT 57580 MAX 66000
-UNDERLOAD 7920
-DOI 50.00 LIZFW 51.66 LITOW 50.45 LILAW 51.65
-MACZFW 25.79 MACTOW 25.23 MACLAW 25.74
-END
-";
+use worked_day::{LOADSHEET, leg};
 
 // The figures beside the greatest masses of the worked sheet, indices and hundredths at their corners.
 const CORNERS: &str = "LOADSHEET
@@ -58,7 +39,7 @@ END
 fn the_worked_loadsheet_is_written(rt: HostRuntime) -> Result<(), Fail> {
     let sheet = worked(rt.alloc()).ok_or("a text is not spelled")?;
     let text = String::from_utf8(write_sheet(rt.alloc(), &sheet)?)?;
-    assert_eq!(rt; text.as_str(), WORKED);
+    assert_eq!(rt; text.as_str(), LOADSHEET);
     Ok(())
 }
 
@@ -226,7 +207,7 @@ fn mac(seed: &mut u64) -> [i128; 3] {
 
 fn random_sheet(alloc: Global, seed: &mut u64) -> Result<Sheet, Fail> {
     Ok(Sheet {
-        leg: leg().ok_or("a leg is not spelled")?,
+        leg: leg()?,
         version: Version::read(b"Y150").ok_or("a version is not spelled")?,
         edition: next(seed),
         dry: dry(seed),

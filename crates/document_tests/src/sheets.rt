@@ -1,21 +1,11 @@
 // The worked sheet, and numbers that look random.
-use aircraft_file::{Registration, Version};
-use last_minute::{Day, FlightName, Leg, Lmcs, PlaceList, Sheet, Station};
+use aircraft_file::Version;
+use last_minute::{Lmcs, PlaceList, Sheet};
 use mass_limits::{Limiting, Masses, Underload};
 use mass_units::{Kg, Ticks};
 use std::alloc::Global;
 use trim::{Balance, Dry, Fuel, Regulated};
-
-/// The leg of each sheet.
-pub fn leg() -> Option<Leg> {
-    Some(Leg {
-        flight: FlightName::read(b"XX210")?,
-        day: Day::read(b"12")?,
-        registration: Registration::read(b"DAIAB")?,
-        origin: Station::read(b"FRA")?,
-        destination: Station::read(b"ARN")?,
-    })
-}
+use worked_day::leg;
 
 fn worked_balance() -> Balance {
     Balance {
@@ -38,7 +28,7 @@ fn worked_balance() -> Balance {
 /// The worked sheet, without its places.
 pub fn worked(alloc: Global) -> Option<Sheet> {
     Some(Sheet {
-        leg: leg()?,
+        leg: leg().ok()?,
         version: Version::read(b"Y150")?,
         edition: 7,
         dry: Dry {

@@ -1,5 +1,5 @@
 // Two desks, each at a door of its own.
-use crate::examples::{MORNING, MORNING_ANSWERS, joined, link, office};
+use crate::examples::{joined, link, office};
 use base_words::NoMemory;
 use desk_serve::{DoorsRun, serve_doors};
 use editions::Entry;
@@ -10,28 +10,7 @@ use std::alloc::Global;
 use std::sync::Wait;
 use std::test::Fail;
 use std::thread::Threads;
-
-/// A flight that there is not is asked for.
-const ROW: &str = "\
-    GET /flights/XX210-13 HTTP/1.1\r\n\
-    Content-Length: 0\r\n\
-    \r\n";
-
-/// Its answer.
-const NO_FLIGHT: &str = "\
-    HTTP/1.1 404 Not Found\r\n\
-    Content-Type: application/json\r\n\
-    Content-Length: 21\r\n\
-    \r\n\
-    {\"error\":\"no flight\"}";
-
-/// There is no room for an entry.
-const FULL: &str = "\
-    HTTP/1.1 507 Insufficient Storage\r\n\
-    Content-Type: application/json\r\n\
-    Content-Length: 16\r\n\
-    \r\n\
-    {\"error\":\"full\"}";
+use worked_day::{FULL, MORNING, MORNING_ANSWERS, NO_FLIGHT, OTHER_FLIGHT};
 
 /// What is asked at the first door: the day of a flight, or of a link that cannot be heard, or of one that cannot be answered.
 /// Then a second link asks.
@@ -64,7 +43,7 @@ const FINE: Case = Case {
 
 /// A link that asks twice, of which a read fails, or a write.
 fn broken_link(alloc: Global, fail_read: u64, fail_write: u64) -> Result<MemoryLink, NoMemory> {
-    let input = joined(alloc, &[ROW, ROW])?;
+    let input = joined(alloc, &[OTHER_FLIGHT, OTHER_FLIGHT])?;
     let fail_reads = vec![in alloc; fail_read]?;
     let fail_writes = vec![in alloc; fail_write]?;
     MemoryLink::new(alloc, input, 100, 1_000, fail_reads, fail_writes)
@@ -87,22 +66,22 @@ fn first_door(alloc: Global, first: First) -> Result<MemoryDoor, NoMemory> {
     match first {
         First::Day => {
             let day = link(alloc, &[MORNING])?;
-            door(alloc, day, link(alloc, &[ROW, ROW])?, 0)
+            door(alloc, day, link(alloc, &[OTHER_FLIGHT, OTHER_FLIGHT])?, 0)
         }
         First::Unheard => {
             let unheard = broken_link(alloc, 1, 0)?;
-            door(alloc, unheard, link(alloc, &[ROW])?, 0)
+            door(alloc, unheard, link(alloc, &[OTHER_FLIGHT])?, 0)
         }
         First::Unsent => {
             let unsent = broken_link(alloc, 0, 1)?;
-            door(alloc, unsent, link(alloc, &[ROW])?, 0)
+            door(alloc, unsent, link(alloc, &[OTHER_FLIGHT])?, 0)
         }
     }
 }
 
 /// A door with a link that asks twice, and then one that asks nothing.
 fn second_door(alloc: Global, fail: u64) -> Result<MemoryDoor, NoMemory> {
-    let first = link(alloc, &[ROW, ROW])?;
+    let first = link(alloc, &[OTHER_FLIGHT, OTHER_FLIGHT])?;
     let second = link(alloc, &[])?;
     door(alloc, first, second, fail)
 }

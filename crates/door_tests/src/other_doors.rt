@@ -1,7 +1,7 @@
 // Doors of other kinds: one that never fails, and a real port with a client.
 ghost use Rattle.std.specs.Prelude.{None};
 
-use crate::examples::{MORNING, joined, office};
+use crate::examples::{joined, office};
 use base_words::NoMemory;
 use desk_serve::{DoorsRun, serve_doors};
 use keeper::{Keeper, MemoryKeeper};
@@ -15,6 +15,7 @@ use std::sync::Wait;
 use std::test::Fail;
 use std::thread::Threads;
 use std::{io, thread};
+use worked_day::MORNING;
 
 /// What comes after the limits in the morning.
 const AFTER_LIMITS: &str = "PUT /flights/XX210-12/cabin/4";

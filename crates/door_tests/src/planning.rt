@@ -1,5 +1,5 @@
 // Desks at work at the same time: one asks while another one plans, and links wait for one another.
-use crate::examples::{MORNING, MORNING_ANSWERS, PLAN, joined, link, office};
+use crate::examples::{joined, link, office};
 use crate::flags::{Flag, FlagDoor, FlagLink};
 use base_words::NoMemory;
 use desk_serve::{DoorsRun, serve_doors};
@@ -11,6 +11,7 @@ use std::alloc::Global;
 use std::sync::Wait;
 use std::test::Fail;
 use std::thread::Threads;
+use worked_day::{MORNING, MORNING_ANSWERS, NO_FLIGHT, OTHER_FLIGHT, PLAN};
 
 /// The fuel of the flight, at the edition that is planned.
 const FUEL: &str = "\
@@ -26,20 +27,6 @@ const FUEL_ANSWER: &str = "\
     Content-Length: 13\r\n\
     \r\n\
     {\"edition\":8}";
-
-/// A flight that there is not is asked for.
-const ROW: &str = "\
-    GET /flights/XX210-13 HTTP/1.1\r\n\
-    Content-Length: 0\r\n\
-    \r\n";
-
-/// Its answer.
-const NO_FLIGHT: &str = "\
-    HTTP/1.1 404 Not Found\r\n\
-    Content-Type: application/json\r\n\
-    Content-Length: 21\r\n\
-    \r\n\
-    {\"error\":\"no flight\"}";
 
 /// The answer to a plan whose figures another desk has changed.
 const STALE_ANSWER: &str = "\
@@ -196,14 +183,14 @@ fn run_of_links_that_wait<Rt: Threads + Wait + Sync>(
     let (now, begun, answered, other) = (Flag::new(), Flag::new(), Flag::new(), Flag::new());
     now.raise();
     let first = FlagLink {
-        link: link(alloc, &[ROW])?,
+        link: link(alloc, &[OTHER_FLIGHT])?,
         answer: NO_FLIGHT,
         begun: &begun,
         due: &answered,
         answered: &other,
     };
     let second = FlagLink {
-        link: link(alloc, &[ROW])?,
+        link: link(alloc, &[OTHER_FLIGHT])?,
         answer: NO_FLIGHT,
         begun: &other,
         due: &begun,

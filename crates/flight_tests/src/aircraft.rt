@@ -1,12 +1,12 @@
 // The file of the worked day, edits of it key by key, and files whose keys describe no lawful aircraft.
 use crate::pass;
-use crate::worked_day::{DAIAB, daiab};
 use aircraft_file::{Aircraft, read_aircraft};
 use case_rows::{Subject, edited, field};
 use hold_limits::{Fit, Hold, Position};
 use std::alloc::{AllocError, Global};
 use std::str;
 use std::test::Fail;
+use worked_day::{DAIAB, aircraft};
 
 /// The file without a key, and with the key not in its form: two rows for each key.
 const KEYS: &str = r#"key 1 is missing|registration = "DAIAB"=>
@@ -227,13 +227,13 @@ fn records_of(alloc: Global, aircraft: &Aircraft) -> Result<String, AllocError> 
 
 /// The figures of the file's aircraft.
 fn figures_read(alloc: Global) -> Result<String, Fail> {
-    let aircraft = daiab(alloc)?;
+    let aircraft = aircraft(alloc)?;
     figures_of(alloc, &aircraft)
 }
 
 /// The records of the file's aircraft.
 fn records_read(alloc: Global) -> Result<String, Fail> {
-    let aircraft = daiab(alloc)?;
+    let aircraft = aircraft(alloc)?;
     Ok(records_of(alloc, &aircraft)?)
 }
 
@@ -291,7 +291,7 @@ fn limits_of(alloc: Global, hold: &Hold) -> Result<String, AllocError> {
 
 /// How many positions the file's hold has, and the first that differs from its row.
 fn positions_read(alloc: Global) -> Result<(usize, Option<usize>), Fail> {
-    let aircraft = daiab(alloc)?;
+    let aircraft = aircraft(alloc)?;
     let hold = aircraft.hold();
     let other = first_other_position(alloc, hold, POSITIONS)?;
     Ok((hold.positions().len(), other))
@@ -335,7 +335,7 @@ fn balance_of(alloc: Global, aircraft: &Aircraft) -> Result<String, AllocError> 
 
 /// The same of the file's aircraft.
 fn balance_read(alloc: Global) -> Result<String, Fail> {
-    let aircraft = daiab(alloc)?;
+    let aircraft = aircraft(alloc)?;
     Ok(balance_of(alloc, &aircraft)?)
 }
 

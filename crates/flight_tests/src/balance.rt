@@ -1,6 +1,5 @@
 // The worked day: its task and its balance, days that are refused, and each rule broken alone.
 use crate::pass;
-use crate::worked_day::daiab;
 use aircraft_file::Aircraft;
 use arrayvec::ArrayVec;
 use case_rows::{Subject, edited};
@@ -11,6 +10,7 @@ use std::alloc::{AllocError, Global};
 use std::slice;
 use std::test::Fail;
 use trim::{Figures, Rule, Rules, TrimFault, broken_rules, state_of, task_of};
+use worked_day::aircraft;
 
 /// Edits of the worked day's row, behind why its figures leave no task.
 const FAULTS: &str = "the fuel table does not have Kg(20001) of fuel|fuel 200 9000=>fuel 200 20001
@@ -63,7 +63,7 @@ fn figures_in(alloc: Global, aircraft: &Aircraft, row: &str) -> Result<Figures, 
 /// The figures of the worked day with edits of its row.
 fn figures_with(alloc: Global, edits: &str) -> Result<Figures, Fail> {
     let text = edited(alloc, UNPLANNED, edits)?;
-    let aircraft = daiab(alloc)?;
+    let aircraft = aircraft(alloc)?;
     figures_in(alloc, &aircraft, text.as_str())
 }
 
@@ -77,7 +77,7 @@ fn task(alloc: Global, figures: &Figures) -> Result<Result<Task, TrimFault>, Fai
     if !figures.keeps_limits() {
         return Err(Fail::new("the figures are within their limits"));
     }
-    Ok(task_of(alloc, &daiab(alloc)?, figures))
+    Ok(task_of(alloc, &aircraft(alloc)?, figures))
 }
 
 fn path(first: u8, second: u8) -> Path {
@@ -98,7 +98,7 @@ fn rules(
     if !figures.keeps_limits() || path.len() != figures.containers.as_slice().len() {
         return Err(Fail::new("the figures are within their limits"));
     }
-    Ok(broken_rules(&daiab(alloc)?, figures, &path))
+    Ok(broken_rules(&aircraft(alloc)?, figures, &path))
 }
 
 /// Why the figures with the edits of a case leave no task.
@@ -167,7 +167,7 @@ fn balance_text(alloc: Global, figures: &Figures) -> Result<String, Fail> {
     if !figures.keeps_limits() || path.len() != figures.containers.as_slice().len() {
         return Err(Fail::new("the figures are within their limits"));
     }
-    let balance = state_of(&daiab(alloc)?, figures, &path)?;
+    let balance = state_of(&aircraft(alloc)?, figures, &path)?;
     Ok(format!(in alloc; "{balance:?}")?)
 }
 

@@ -2,11 +2,11 @@
 ghost use Rattle.std.specs.Prelude.{IfOk};
 ghost use Rattle.load_io.specs.MemoryShelf.{HaveDifferentNames, named_files};
 
-use crate::worked_day::DAIAB;
 use desk_fleet::{FleetFault, fleet_from, line_of_refusal};
 use load_io::MemoryShelf;
 use std::alloc::{AllocError, Global};
 use std::test::Fail;
+use worked_day::DAIAB;
 
 // The file of the worked aircraft, one of another aircraft, and one that describes none.
 fn three_files(alloc: Global) -> Result<Vec<(String, Vec<u8>)>, AllocError>

@@ -2,7 +2,6 @@
 ghost use Rattle.std.specs.Prelude.{IfOk};
 ghost use Rattle.last_minute.specs.Planned.{HasBalance};
 
-use crate::worked_day::{ROW, daiab};
 use aircraft_file::Aircraft;
 use hold_limits::Name;
 use last_minute::{FlightState, Lmc, Place, Sheet, apply_lmc, read_row, sheet_of};
@@ -10,6 +9,7 @@ use mass_units::Kg;
 use std::alloc::{AllocError, Global};
 use std::test::Fail;
 use std::{slice, str};
+use worked_day::{ROW, aircraft};
 
 /// The worked flight.
 fn flight_of(alloc: Global, aircraft: &Aircraft) -> Result<FlightState, Fail>
@@ -59,7 +59,7 @@ fn said_of(alloc: Global, aircraft: &Aircraft, change: &Lmc) -> Result<String, F
 /// What is said where the load of the bulk position changes by these kilograms.
 fn said_with(alloc: Global, mass: i32) -> Result<String, Fail> {
     let change = bulk(mass)?;
-    let aircraft = daiab(alloc)?;
+    let aircraft = aircraft(alloc)?;
     said_of(alloc, &aircraft, &change)
 }
 
@@ -107,7 +107,7 @@ fn worked_sheet(alloc: Global, aircraft: &Aircraft) -> Result<Sheet, Fail> {
 
 /// Its figures.
 fn sheet_text(alloc: Global) -> Result<String, Fail> {
-    let aircraft = daiab(alloc)?;
+    let aircraft = aircraft(alloc)?;
     let sheet = worked_sheet(alloc, &aircraft)?;
     figures_of(alloc, &sheet)
 }

@@ -23,8 +23,6 @@ mod late_changes;
 mod rows;
 #[cfg(test)]
 mod states;
-#[cfg(test)]
-mod worked_day;
 
 /// Fails a test where a row of a table is wrong, and prints the row.
 #[cfg(test)]

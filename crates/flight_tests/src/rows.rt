@@ -1,13 +1,13 @@
 // The row of the worked flight.
-use crate::worked_day::{ROW, daiab};
 use flight_row::{RowFault, read_row, write_row};
 use std::alloc::Global;
 use std::test::Fail;
+use worked_day::{ROW, aircraft};
 
 #[test]
 fn the_worked_row_is_read_and_written(rt: HostRuntime) -> Result<(), Fail> {
     let mut fleet = Vec::new(rt.alloc());
-    fleet.push(daiab(rt.alloc())?)?;
+    fleet.push(aircraft(rt.alloc())?)?;
     let flight = read_row(rt.alloc(), fleet.as_slice(), ROW.as_bytes())?;
     assert_eq!(rt; flight.releases, 1);
     let Some(aircraft) = fleet.first() else {

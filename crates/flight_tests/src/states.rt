@@ -1,7 +1,7 @@
 // The small texts of a flight, and its key.
-use aircraft_file::Registration;
-use flight_state::{Day, FlightKey, FlightName, Leg, Station};
+use flight_state::{Day, FlightKey, FlightName, Station};
 use std::test::Fail;
+use worked_day::leg;
 
 #[test]
 fn flights_are_spelled_with_an_airline_and_a_number(rt: HostRuntime) {
@@ -38,23 +38,7 @@ fn stations_have_three_capitals(rt: HostRuntime) {
 
 #[test]
 fn a_key_is_a_flight_and_a_day(rt: HostRuntime) -> Result<(), Fail> {
-    let (Some(flight), Some(day)) = (FlightName::read(b"XX210"), Day::read(b"12")) else {
-        return Err(Fail::new("the texts are spelled"));
-    };
-    let (Some(registration), Some(origin), Some(destination)) = (
-        Registration::read(b"DAIAB"),
-        Station::read(b"FRA"),
-        Station::read(b"ARN"),
-    ) else {
-        return Err(Fail::new("the texts are spelled"));
-    };
-    let leg = Leg {
-        flight,
-        day,
-        registration,
-        origin,
-        destination,
-    };
+    let leg = leg()?;
     let key = FlightKey::of(&leg.copy());
     assert_eq!(rt; key.bytes(), b"XX210-12".as_slice());
     assert!(rt; FlightKey::read(b"XX210-12").is_some_and(|read| read.bytes() == key.bytes()));

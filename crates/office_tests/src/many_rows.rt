@@ -1,9 +1,9 @@
 // How many rows an office opens with.
-use crate::offices::fleet;
 use editions::{Office, StartFault};
 use keeper::{Bytes, Keeper, KeptRow, MemoryKeeper};
 use std::alloc::Global;
 use std::test::Fail;
+use worked_day::fleet;
 
 /// The row of a flight just after its opening.
 fn opened_row(alloc: Global, number: u32) -> Result<KeptRow, Fail> {

@@ -2,15 +2,14 @@
 // a text: a line for each request, with a word for what is asked, an edition, and the reply that is due.
 ghost use Rattle.std.specs.Prelude.{IfOk, IfSome};
 ghost use Rattle.editions.specs.Acts.{IsPartWithin, IsWithinLimits};
-ghost use Rattle.aircraft_file.specs.Craft.{AreApart};
 
-use aircraft_file::{Aircraft, Registration, read_aircraft};
+use aircraft_file::Aircraft;
 use base_words::NoMemory;
 use cert_checker::Proven;
 use certificate::{Certificate, Claim, Cuts};
 use editions::{Entry, FigurePart, Office, Refusal, Reply, Request, StartFault, What};
 use flight_history::{new_flight, standing_after};
-use flight_state::{Day, FlightKey, FlightName, FlightState, Leg, Lmc, Station};
+use flight_state::{FlightState, Lmc};
 use hold_limits::{Name, Path, Task};
 use keeper::{Bytes, FailingKeeper, Keeper, KeptRow, MemoryKeeper};
 use last_minute::LmcFault;
@@ -19,81 +18,7 @@ use std::alloc::{AllocError, Global};
 use std::str;
 use std::test::Fail;
 use trim::{Dry, Fuel, Regulated, Rules};
-
-/// `examples/daiab.toml`.
-const DAIAB: &str = r#"registration = "DAIAB"
-version = "Y150"
-[dry]
-mass = 42000
-index = "50.00000"
-[chord]
-k = "50.00000"
-c = 1000
-reference = 18850
-lemac = 17800
-mac = 4190
-[limits]
-ramp = 73900
-zero_fuel = 62500
-take_off = 73500
-landing = 66000
-[tolerance]
-mass = 500
-index = "5.00000"
-[trim]
-low = "50.00000"
-high = "51.00000"
-[averages]
-adult = 84
-child = 35
-infant = 10
-bag = 15
-[[zone]]
-capacity = 60
-influence = -700
-[[zone]]
-capacity = 90
-influence = 500
-[[position]]
-name = "11"
-compartment = 1
-influence = -600
-fits = [["AKE", 1500]]
-[[position]]
-name = "12"
-compartment = 1
-influence = -400
-fits = [["AKE", 1500]]
-[[position]]
-name = "41"
-compartment = 4
-influence = 400
-fits = [["AKE", 1500]]
-[[position]]
-name = "42"
-compartment = 4
-influence = 600
-fits = [["AKE", 1500]]
-[[position]]
-name = "51"
-compartment = 5
-influence = 900
-bulk = true
-[hold]
-combined = [[2500, "11", "12"]]
-aft = [["41", 4500]]
-[fuel]
-rows = [[0, "0.00000"], [3000, "-0.01000"], [9000, "-1.21000"], [20000, "-2.31000"]]
-[envelope.zero_fuel]
-forward = [[40000, "40.00000"], [60000, "44.00000"], [65000, "45.00000"]]
-aft = [[40000, "60.00000"], [65000, "60.00000"]]
-[envelope.take_off]
-forward = [[40000, "38.00000"], [75000, "42.00000"]]
-aft = [[40000, "62.00000"], [75000, "62.00000"]]
-[envelope.landing]
-forward = [[40000, "39.00000"], [70000, "43.00000"]]
-aft = [[40000, "61.00000"], [70000, "61.00000"]]
-"#;
+use worked_day::{aircraft, fleet, key, leg};
 
 /// The row of the flight just after its opening.
 const OPENED: &str = "FLIGHT 2
@@ -106,32 +31,6 @@ fuel 0 0 0
 limits 73500 66000
 END
 ";
-
-fn aircraft(alloc: Global) -> Result<Aircraft, NoMemory> {
-    read_aircraft(alloc, DAIAB.as_bytes()).map_err(|_| NoMemory)
-}
-
-pub fn fleet(alloc: Global) -> Result<Vec<Aircraft>, NoMemory>
-    ensures { IfOk result (λ fleet. AreApart fleet.items) }
-{
-    let mut fleet = Vec::new(alloc);
-    fleet.push(aircraft(alloc)?)?;
-    Ok(fleet)
-}
-
-fn leg(registration: &[u8]) -> Result<Leg, NoMemory> {
-    Ok(Leg {
-        flight: FlightName::read(b"XX210").ok_or(NoMemory)?,
-        day: Day::read(b"12").ok_or(NoMemory)?,
-        registration: Registration::read(registration).ok_or(NoMemory)?,
-        origin: Station::read(b"FRA").ok_or(NoMemory)?,
-        destination: Station::read(b"ARN").ok_or(NoMemory)?,
-    })
-}
-
-fn key() -> Result<FlightKey, NoMemory> {
-    FlightKey::read(b"XX210-12").ok_or(NoMemory)
-}
 
 /// The part of the figures that a word of a talk sets.
 fn part_of(word: &[u8]) -> Option<FigurePart>
@@ -210,9 +109,7 @@ fn request_of(word: &[u8], edition: u32) -> Result<Request, NoMemory>
         return Ok(Request::Late { key, edition, lmc });
     }
     Ok(match word {
-        b"new" => Request::NewFlight {
-            leg: leg(b"DAIAB")?,
-        },
+        b"new" => Request::NewFlight { leg: leg()? },
         b"take" => Request::Take { key, edition },
         b"release" => Request::Release { key, edition },
         b"late" => Request::Late {
@@ -624,7 +521,7 @@ fn figures_of(alloc: Global, s: &FlightState) -> Result<String, AllocError> {
 
 /// These figures of the flight, as the history has them.
 fn standing_in(alloc: Global, aircraft: &Aircraft, history: &[Entry]) -> Result<String, Fail> {
-    let opened = new_flight(alloc, aircraft, leg(b"DAIAB")?);
+    let opened = new_flight(alloc, aircraft, leg()?);
     match &standing_after(alloc, &opened, history)? {
         Some(standing) => Ok(figures_of(alloc, standing)?),
         None => Err(Fail::new("the numbers are within their types")),

@@ -1,5 +1,4 @@
 // The worked day over one connection: requests, each with its answer.
-use aircraft_file::read_aircraft;
 use base_words::NoMemory;
 use desk_http::{ConnEnd, Solo, Tools, serve_connection};
 use editions::Office;
@@ -9,149 +8,9 @@ use load_io::MemoryLink;
 use placer::Direct;
 use std::alloc::Global;
 use std::test::Fail;
+use worked_day::{CPM, FULL, LDM, LOADSHEET, MORNING, MORNING_ANSWERS, PLAN, ROW, fleet};
 
-/// `examples/daiab.toml`.
-const DAIAB: &str = r#"registration = "DAIAB"
-version = "Y150"
-[dry]
-mass = 42000
-index = "50.00000"
-[chord]
-k = "50.00000"
-c = 1000
-reference = 18850
-lemac = 17800
-mac = 4190
-[limits]
-ramp = 73900
-zero_fuel = 62500
-take_off = 73500
-landing = 66000
-[tolerance]
-mass = 500
-index = "5.00000"
-[trim]
-low = "50.00000"
-high = "51.00000"
-[averages]
-adult = 84
-child = 35
-infant = 10
-bag = 15
-[[zone]]
-capacity = 60
-influence = -700
-[[zone]]
-capacity = 90
-influence = 500
-[[position]]
-name = "11"
-compartment = 1
-influence = -600
-fits = [["AKE", 1500]]
-[[position]]
-name = "12"
-compartment = 1
-influence = -400
-fits = [["AKE", 1500]]
-[[position]]
-name = "41"
-compartment = 4
-influence = 400
-fits = [["AKE", 1500]]
-[[position]]
-name = "42"
-compartment = 4
-influence = 600
-fits = [["AKE", 1500]]
-[[position]]
-name = "51"
-compartment = 5
-influence = 900
-bulk = true
-[hold]
-combined = [[2500, "11", "12"]]
-aft = [["41", 4500]]
-[fuel]
-rows = [[0, "0.00000"], [3000, "-0.01000"], [9000, "-1.21000"], [20000, "-2.31000"]]
-[envelope.zero_fuel]
-forward = [[40000, "40.00000"], [60000, "44.00000"], [65000, "45.00000"]]
-aft = [[40000, "60.00000"], [65000, "60.00000"]]
-[envelope.take_off]
-forward = [[40000, "38.00000"], [75000, "42.00000"]]
-aft = [[40000, "62.00000"], [75000, "62.00000"]]
-[envelope.landing]
-forward = [[40000, "39.00000"], [70000, "43.00000"]]
-aft = [[40000, "61.00000"], [70000, "61.00000"]]
-"#;
-
-/// The day up to the last figures.
-const MORNING: &str = "\
-    POST /flights HTTP/1.1\r\n\
-    Content-Length: 85\r\n\
-    \r\n\
-    {\"flight\":\"XX210\",\"day\":12,\"registration\":\"DAIAB\",\"origin\":\"FRA\",\"destination\":\"ARN\"}PUT /flights/XX210-12/dry/1 HTTP/1.1\r\n\
-    Content-Length: 55\r\n\
-    \r\n\
-    {\"mass\":42000,\"index\":\"50.00000\",\"cockpit\":2,\"cabin\":4}PUT /flights/XX210-12/fuel/2 HTTP/1.1\r\n\
-    Content-Length: 39\r\n\
-    \r\n\
-    {\"taxi\":200,\"takeoff\":9000,\"trip\":6000}PUT /flights/XX210-12/limits/3 HTTP/1.1\r\n\
-    Content-Length: 33\r\n\
-    \r\n\
-    {\"takeoff\":73500,\"landing\":66000}PUT /flights/XX210-12/cabin/4 HTTP/1.1\r\n\
-    Content-Length: 29\r\n\
-    \r\n\
-    {\"zones\":[[50,4,2],[70,6,1]]}PUT /flights/XX210-12/containers/5 HTTP/1.1\r\n\
-    Content-Length: 39\r\n\
-    \r\n\
-    id,mass\n\
-    AKE10001XX,1000\n\
-    AKE10002XX,800\n\
-    PUT /flights/XX210-12/loose/6 HTTP/1.1\r\n\
-    Content-Length: 23\r\n\
-    \r\n\
-    {\"bulk\":[[\"51\",200,8]]}";
-
-/// Their answers.
-const MORNING_ANSWERS: &str = "\
-    HTTP/1.1 201 Created\r\n\
-    Content-Type: application/json\r\n\
-    Content-Length: 30\r\n\
-    \r\n\
-    {\"edition\":1,\"key\":\"XX210-12\"}HTTP/1.1 200 OK\r\n\
-    Content-Type: application/json\r\n\
-    Content-Length: 13\r\n\
-    \r\n\
-    {\"edition\":2}HTTP/1.1 200 OK\r\n\
-    Content-Type: application/json\r\n\
-    Content-Length: 13\r\n\
-    \r\n\
-    {\"edition\":3}HTTP/1.1 200 OK\r\n\
-    Content-Type: application/json\r\n\
-    Content-Length: 13\r\n\
-    \r\n\
-    {\"edition\":4}HTTP/1.1 200 OK\r\n\
-    Content-Type: application/json\r\n\
-    Content-Length: 13\r\n\
-    \r\n\
-    {\"edition\":5}HTTP/1.1 200 OK\r\n\
-    Content-Type: application/json\r\n\
-    Content-Length: 13\r\n\
-    \r\n\
-    {\"edition\":6}HTTP/1.1 200 OK\r\n\
-    Content-Type: application/json\r\n\
-    Content-Length: 13\r\n\
-    \r\n\
-    {\"edition\":7}";
-
-/// A plan.
-const PLAN: &str = "\
-    POST /flights/XX210-12/plan/7 HTTP/1.1\r\n\
-    Content-Length: 0\r\n\
-    \r\n";
-
-/// Its answer.
+/// The answer to the request for a plan.
 const PLAN_ANSWER: &str = "\
     HTTP/1.1 200 OK\r\n\
     Content-Type: text/plain\r\n\
@@ -287,94 +146,42 @@ const AFTERNOON: &str = "\
     \r\n\
     {\"taxi\":200,\"takeoff\":9000,\"trip\":6000}";
 
-/// Their answers.
-const AFTERNOON_ANSWERS: &str = "\
+/// What stands before the loadsheet.
+const LOADSHEET_HEAD: &str = "\
     HTTP/1.1 200 OK\r\n\
     Content-Type: text/plain\r\n\
     Content-Length: 370\r\n\
-    \r\n\
-    LOADSHEET\n\
-    XX210/12.DAIAB.FRA.ARN\n\
-    EDNO 7\n\
-    PAX 130/3\n\
-    CABIN 10460\n\
-    CONTAINERS 1800\n\
-    LOOSE 320\n\
-    TRAFFIC LOAD 12580\n\
-    DRY OPERATING WEIGHT 42000\n\
-    ZERO FUEL WEIGHT 54580 MAX 62500 L\n\
-    TAKE OFF FUEL 9000\n\
-    TAKE OFF WEIGHT 63580 MAX 73500\n\
-    TRIP FUEL 6000\n\
-    LANDING WEIGHT 57580 MAX 66000\n\
-    UNDERLOAD 7920\n\
-    DOI 50.00 LIZFW 51.66 LITOW 50.45 LILAW 51.65\n\
-    MACZFW 25.79 MACTOW 25.23 MACLAW 25.74\n\
-    END\n\
-    HTTP/1.1 200 OK\r\n\
-    Content-Type: text/plain\r\n\
-    Content-Length: 370\r\n\
-    \r\n\
-    LOADSHEET\n\
-    XX210/12.DAIAB.FRA.ARN\n\
-    EDNO 7\n\
-    PAX 130/3\n\
-    CABIN 10460\n\
-    CONTAINERS 1800\n\
-    LOOSE 320\n\
-    TRAFFIC LOAD 12580\n\
-    DRY OPERATING WEIGHT 42000\n\
-    ZERO FUEL WEIGHT 54580 MAX 62500 L\n\
-    TAKE OFF FUEL 9000\n\
-    TAKE OFF WEIGHT 63580 MAX 73500\n\
-    TRIP FUEL 6000\n\
-    LANDING WEIGHT 57580 MAX 66000\n\
-    UNDERLOAD 7920\n\
-    DOI 50.00 LIZFW 51.66 LITOW 50.45 LILAW 51.65\n\
-    MACZFW 25.79 MACTOW 25.23 MACLAW 25.74\n\
-    END\n\
+    \r\n";
+
+/// What stands before the load message.
+const LDM_HEAD: &str = "\
     HTTP/1.1 200 OK\r\n\
     Content-Type: text/plain\r\n\
     Content-Length: 75\r\n\
-    \r\n\
-    LDM\n\
-    XX210/12.DAIAB.Y150.2/4\n\
-    -ARN.120/10/3.T2120.1/1000.4/800.5/320.PAX/130\n\
+    \r\n";
+
+/// What stands before the container message.
+const CPM_HEAD: &str = "\
     HTTP/1.1 200 OK\r\n\
     Content-Type: text/plain\r\n\
     Content-Length: 95\r\n\
-    \r\n\
-    CPM\n\
-    XX210/12.DAIAB.Y150\n\
-    -11/AKE10001XX/ARN/1000\n\
-    -12/N\n\
-    -41/N\n\
-    -42/AKE10002XX/ARN/800\n\
-    -51/ARN/320\n\
+    \r\n";
+
+/// What stands before the row.
+const ROW_HEAD: &str = "\
     HTTP/1.1 200 OK\r\n\
     Content-Type: text/plain\r\n\
     Content-Length: 238\r\n\
-    \r\n\
-    FLIGHT 2\n\
-    leg XX210 12 DAIAB FRA ARN\n\
-    edition 7\n\
-    stage released\n\
-    releases 1\n\
-    dry 42000 50.00000 2 4\n\
-    fuel 200 9000 6000\n\
-    limits 73500 66000\n\
-    zone 50 4 2\n\
-    zone 70 6 1\n\
-    container AKE10001XX 1000\n\
-    container AKE10002XX 800\n\
-    loose 51 200 8\n\
-    plan 11 42\n\
-    END\n\
+    \r\n";
+
+/// The answers to the departure, and to what is asked behind it.
+const DEPARTED: &str = "\
     HTTP/1.1 200 OK\r\n\
     Content-Type: application/json\r\n\
     Content-Length: 13\r\n\
     \r\n\
-    {\"edition\":7}HTTP/1.1 422 Unprocessable Entity\r\n\
+    {\"edition\":7}\
+    HTTP/1.1 422 Unprocessable Entity\r\n\
     Content-Type: application/json\r\n\
     Content-Length: 16\r\n\
     \r\n\
@@ -423,16 +230,8 @@ const AGAIN_ANSWERS: &str = "\
     \r\n\
     {\"edition\":4}";
 
-/// There is no room for an entry.
-const FULL_ANSWER: &str = "\
-    HTTP/1.1 507 Insufficient Storage\r\n\
-    Content-Type: application/json\r\n\
-    Content-Length: 16\r\n\
-    \r\n\
-    {\"error\":\"full\"}";
-
 /// The row of the flight is asked for.
-const ROW: &str = "\
+const SHOW: &str = "\
     GET /flights/XX210-12 HTTP/1.1\r\n\
     Content-Length: 0\r\n\
     \r\n";
@@ -531,9 +330,7 @@ impl Case {
     fn office(self, alloc: Global) -> Result<Solo<FailingKeeper>, NoMemory> {
         let fail_commits = vec![in alloc; self.fail_commit]?;
         let mut keeper = FailingKeeper::new(alloc, Vec::new(alloc), fail_commits);
-        let mut fleet = Vec::new(alloc);
-        fleet.push(read_aircraft(alloc, DAIAB.as_bytes()).map_err(|_| NoMemory)?)?;
-        match Office::start(alloc, fleet, u64::from(self.capacity), &mut keeper) {
+        match Office::start(alloc, fleet(alloc)?, u64::from(self.capacity), &mut keeper) {
             Ok(office) => Ok(Solo::new(office, keeper)),
             Err(_) => Err(NoMemory),
         }
@@ -584,7 +381,17 @@ fn a_day_is_answered_however_its_bytes_come(rt: HostRuntime) -> Result<(), Fail>
         PLAN_ANSWER,
         REFUSED_ANSWERS,
         ODD_ANSWERS,
-        AFTERNOON_ANSWERS,
+        LOADSHEET_HEAD,
+        LOADSHEET,
+        LOADSHEET_HEAD,
+        LOADSHEET,
+        LDM_HEAD,
+        LDM,
+        CPM_HEAD,
+        CPM,
+        ROW_HEAD,
+        ROW,
+        DEPARTED,
     ];
     for most in [1, 100, 100_000] {
         let day = Case {
@@ -645,9 +452,9 @@ fn a_failed_commit_is_answered_so(rt: HostRuntime) -> Result<(), Fail> {
 fn an_office_without_room_says_so(rt: HostRuntime) -> Result<(), Fail> {
     let case = Case {
         capacity: 8,
-        ..Case::of(&[MORNING, PLAN, ROW, REFUSED])
+        ..Case::of(&[MORNING, PLAN, SHOW, REFUSED])
     };
-    let due = [MORNING_ANSWERS, FULL_ANSWER, FULL_ANSWER, REFUSED_ANSWERS];
+    let due = [MORNING_ANSWERS, FULL, FULL, REFUSED_ANSWERS];
     check(&rt, case, ConnEnd::Ended, &due)
 }
 

@@ -7,7 +7,7 @@ use Rattle.flight_tests.proofs.rows.the_worked_row_is_read_and_written.Goals as 
 
 pub write_row-requires : goal.write_row-requires
 write_row-requires g c =
-    let x : Craft = c.in_ok-daiab.field-0 in
+    let x : Craft = c.in_ok-aircraft.field-0 in
     let aircraft : Craft = c.in-Some.aircraft.now in
     let items : c.push.new.self.items ≡ x ∷ [] = c.in_ok-push.ensures.items ∙ ap (λ (t : List Craft). t ++ x ∷ []) c.new-fleet.ensures.items in
     let same : aircraft ≡ x = same_Some aircraft x (c.in-Some.ensures.value ∙ ap (λ (t : List Craft). slice_get t 0) (c.deref.ensures.value ∙ items)) in

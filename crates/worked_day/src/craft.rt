@@ -1,7 +1,11 @@
-// The texts of the worked day.
+//! The aircraft, and a fleet of it alone.
+
+ghost use Rattle.std.specs.Prelude.{IfOk};
+ghost use Rattle.aircraft_file.specs.Craft.{AreApart};
+
 use aircraft_file::{Aircraft, read_aircraft};
+use base_words::NoMemory;
 use std::alloc::Global;
-use std::test::Fail;
 
 /// `examples/daiab.toml`.
 pub const DAIAB: &str = r#"registration = "DAIAB"
@@ -78,25 +82,16 @@ forward = [[40000, "39.00000"], [70000, "43.00000"]]
 aft = [[40000, "61.00000"], [70000, "61.00000"]]
 "#;
 
-/// The row of the worked flight, released at edition 7 with its containers on positions 11 and 42.
-pub const ROW: &str = r#"FLIGHT 2
-leg XX210 12 DAIAB FRA ARN
-edition 7
-stage released
-releases 1
-dry 42000 50.00000 2 4
-fuel 200 9000 6000
-limits 73500 66000
-zone 50 4 2
-zone 70 6 1
-container AKE10001XX 1000
-container AKE10002XX 800
-loose 51 200 8
-plan 11 42
-END
-"#;
+/// The aircraft of the file.
+pub fn aircraft(alloc: Global) -> Result<Aircraft, NoMemory> {
+    read_aircraft(alloc, DAIAB.as_bytes()).map_err(|_| NoMemory)
+}
 
-/// The aircraft of the worked day.
-pub fn daiab(alloc: Global) -> Result<Aircraft, Fail> {
-    Ok(read_aircraft(alloc, DAIAB.as_bytes())?)
+/// The fleet of this aircraft alone.
+pub fn fleet(alloc: Global) -> Result<Vec<Aircraft>, NoMemory>
+    ensures { IfOk result (λ fleet. AreApart fleet.items) }
+{
+    let mut fleet = Vec::new(alloc);
+    fleet.push(aircraft(alloc)?)?;
+    Ok(fleet)
 }

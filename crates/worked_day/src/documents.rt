@@ -1,0 +1,56 @@
+//! The documents of the flight, released at edition 7 with its containers on positions 11 and 42.
+
+/// Its row.
+pub const ROW: &str = "FLIGHT 2
+leg XX210 12 DAIAB FRA ARN
+edition 7
+stage released
+releases 1
+dry 42000 50.00000 2 4
+fuel 200 9000 6000
+limits 73500 66000
+zone 50 4 2
+zone 70 6 1
+container AKE10001XX 1000
+container AKE10002XX 800
+loose 51 200 8
+plan 11 42
+END
+";
+
+/// Its loadsheet.
+pub const LOADSHEET: &str = "LOADSHEET
+XX210/12.DAIAB.FRA.ARN
+EDNO 7
+PAX 130/3
+CABIN 10460
+CONTAINERS 1800
+LOOSE 320
+TRAFFIC LOAD 12580
+DRY OPERATING WEIGHT 42000
+ZERO FUEL WEIGHT 54580 MAX 62500 L
+TAKE OFF FUEL 9000
+TAKE OFF WEIGHT 63580 MAX 73500
+TRIP FUEL 6000
+LANDING WEIGHT 57580 MAX 66000
+UNDERLOAD 7920
+DOI 50.00 LIZFW 51.66 LITOW 50.45 LILAW 51.65
+MACZFW 25.79 MACTOW 25.23 MACLAW 25.74
+END
+";
+
+/// Its load message.
+pub const LDM: &str = "LDM
+XX210/12.DAIAB.Y150.2/4
+-ARN.120/10/3.T2120.1/1000.4/800.5/320.PAX/130
+";
+
+/// Its container message.
+pub const CPM: &str = "CPM
+XX210/12.DAIAB.Y150
+-11/AKE10001XX/ARN/1000
+-12/N
+-41/N
+-42/AKE10002XX/ARN/800
+-51/ARN/320
+";
