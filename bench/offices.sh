@@ -47,7 +47,7 @@ round() {
 }
 
 printf '%-8s %-8s' flights entries
-printf ' %9s' show set take install release late reopen depart
+printf ' %9s' show set take plan install release late reopen depart
 printf '\n'
 for flights in 1 100 2000; do
     few=$((flights < 20 ? flights : 20))
@@ -58,6 +58,7 @@ for flights in 1 100 2000; do
         show=$(round show "$flights" "$entries" 0 "$few")
         set=$(round set "$flights" "$entries" 0 "$few")
         take=$(round take "$flights" "$entries" 0 "$few")
+        plan=$(round plan "$flights" "$entries" 0 "$few")
         install=$(round install "$flights" "$entries" 0 "$few")
         release=$(round release "$flights" "$entries" 0 "$few")
         late=$(round late "$flights" "$entries" 0 "$few")
@@ -65,7 +66,7 @@ for flights in 1 100 2000; do
         released=$(round release "$flights" "$entries" "$behind" "$many")
         departed=$(round depart "$flights" "$entries" "$behind" "$many")
         printf '%-8d %-8d' "$flights" "$entries"
-        printf ' %9d' "$show" "$set" $((take - set)) $((install - take)) $((release - install)) $((late - release)) \
+        printf ' %9d' "$show" "$set" $((take - set)) $((plan - take)) $((install - plan)) $((release - install)) $((late - release)) \
             $((reopen - release)) $((departed - released))
         printf '\n'
     done

@@ -1,5 +1,5 @@
 -- the answer to an act at a flight, as that of the office
-use Rattle.std.proofs.Common.{refl, ◌≡◌, ℕ, Bool, List, Option, None, Some, All, ◌∙◌, sym, ap, subst}
+use Rattle.std.proofs.Common.{refl, ◌≡◌, ℕ, Bool, true, List, Option, None, Some, All, ◌∙◌, sym, ap, subst}
 use Rattle.std.proofs.lemmas.Option.{slice_get_within, get_or_from_slice_get}
 use Rattle.std.specs.Prelude.{IsSomeAnd, slice_get, Result, Ok, Err, IfOk, option_map}
 use Rattle.base_words.specs.declared.NoMemory.{NoMemory}
@@ -20,8 +20,8 @@ use Rattle.flight_history.specs.Step.{step, after}
 use Rattle.flight_history.specs.Verdict.{first_of, reasons, Says, FirstThen, IsVerdict}
 use Rattle.editions.specs.declared.answers.Answer.{Answer}
 use Rattle.editions.specs.declared.answers.Answer.TheVariants.{Refused, Told, Changed}
-use Rattle.editions.specs.Acts.{key_asked, IsActWith}
-use Rattle.editions.specs.Answers.{IsVerdictWith, IsAnswerWith, IsAnswer, KeepsKey, MakesSound, IsLawfulAt}
+use Rattle.editions.specs.Acts.{keeps_figures, key_asked, IsActWith}
+use Rattle.editions.specs.Answers.{IsVerdictWith, IsAnswerWith, IsAnswer, HasFiguresOf, KeepsFigures, KeepsKey, MakesSound, IsLawfulAt}
 use Rattle.editions.specs.declared.flights.Flight.{Flight}
 use Rattle.editions.specs.Sound.{IsReady, IsSound, IsKeptFlight}
 use Rattle.editions.proofs.ReadyLemmas.{step-ready, ready-new}
@@ -75,6 +75,33 @@ answers-in fleet full a s x (Err e) found h = tt
 pub sounds-in : (fleet : List Craft) (a : Craft) (s : FlightState) (x : Act) (r : Result Answer NoMemory) → aircraft_of fleet s.leg ≡ Some a → IsLawfulCraft a → IsReady a s → IsLawfulAt fleet (Some s) x → IfOk r (IsAnswerWith a s x) → IfOk r (MakesSound fleet)
 sounds-in fleet a s x (Ok answer) found hold ready lawful h = sound-in fleet a s x answer found hold ready lawful h
 sounds-in fleet a s x (Err e) found hold ready lawful h = tt
+
+-- Figures -------------------------------------------------------------------------------------------------
+
+-- an act that leaves the figures as they are changes neither the leg nor the effective figures
+step-figures : (s : FlightState) (x : Act) → keeps_figures x ≡ true → HasFiguresOf (step s x) s
+step-figures s (act.NewFlight leg) keeps = absurd (cc (keeps))
+step-figures s (act.Set edition told) keeps = absurd (cc (keeps))
+step-figures s (act.Take edition) keeps = (refl, refl)
+step-figures s (act.Install edition path same) keeps = (refl, refl)
+step-figures s (act.Release edition) keeps = (refl, refl)
+step-figures s (act.Late edition change) keeps = absurd (cc (keeps))
+step-figures s (act.Reopen edition) keeps = (refl, refl)
+step-figures s (act.Depart edition) keeps = (refl, refl)
+step-figures s (act.Show what) keeps = (refl, refl)
+
+keeps-figures : (fleet : List Craft) (full : Bool) (o : Option FlightState) (x : Act) (answer : Answer) → keeps_figures x ≡ true → IsAnswer fleet full o x answer → KeepsFigures o answer
+keeps-figures fleet full o x (Refused refusal) keeps h = tt
+keeps-figures fleet full o x (Told reply) keeps h = tt
+keeps-figures fleet full None x (Changed next reply) keeps h = tt
+keeps-figures fleet full (Some s) x (Changed next reply) keeps h =
+    let now : step s x ≡ next = let is = h.2 in cc (is) in
+    subst (λ (t : FlightState). HasFiguresOf t s) now (step-figures s x keeps)
+
+-- so what it changes keeps its figures
+pub keep-figures : (fleet : List Craft) (full : Bool) (o : Option FlightState) (x : Act) (r : Result Answer NoMemory) → keeps_figures x ≡ true → IfOk r (IsAnswer fleet full o x) → IfOk r (KeepsFigures o)
+keep-figures fleet full o x (Ok answer) keeps h = keeps-figures fleet full o x answer keeps h
+keep-figures fleet full o x (Err e) keeps h = tt
 
 -- Keys ----------------------------------------------------------------------------------------------------
 

@@ -1,5 +1,5 @@
 -- a turn of the office, from what its calls ensure
-use Rattle.std.proofs.Common.{refl, ◌≡◌, ℕ, ◌-◌, Bool, List, [], ◌∷◌, ◌++◌, Option, None, Some, All, ◌∙◌, sym, ap, subst, length, map, cond}
+use Rattle.std.proofs.Common.{refl, ◌≡◌, ℕ, ◌-◌, Bool, true, List, [], ◌∷◌, ◌++◌, Option, None, Some, All, ◌∙◌, sym, ap, subst, length, map, cond}
 use Rattle.std.specs.Prelude.{nat_le, Result, Ok, Err, IfOk}
 use Rattle.std.specs.Option.{option_and_then}
 use Rattle.std.proofs.lemmas.List.{map-append, length-map}
@@ -27,13 +27,13 @@ use Rattle.flight_history.proofs.VerdictLemmas.{task-laws}
 use Rattle.editions.specs.declared.answers.Answer.{Answer}
 use Rattle.editions.specs.declared.answers.Answer.TheVariants.{Refused, Told, Changed}
 use Rattle.editions.specs.declared.flights.Flight.{Flight}
-use Rattle.editions.specs.Acts.{key_asked, IsActOf, IsWithinLimits}
-use Rattle.editions.specs.Answers.{IsAnswer, KeepsKey, IsLawfulAt}
+use Rattle.editions.specs.Acts.{keeps_figures, key_asked, IsActOf, IsWithinLimits}
+use Rattle.editions.specs.Answers.{IsAnswer, KeepsFigures, KeepsKey, IsLawfulAt}
 use Rattle.editions.specs.Places.{states, state_at, IsPlaceOf}
 use Rattle.editions.specs.Settled.{IsSettledBy}
 use Rattle.editions.specs.Sound.{IsKeptFlight}
 use Rattle.editions.specs.Books.{Books, IsOffice, IsTurn, HasTables}
-use Rattle.editions.proofs.AnswerLemmas.{keep-key}
+use Rattle.editions.proofs.AnswerLemmas.{keep-figures, keep-key}
 use Rattle.editions.proofs.AskLemmas.{lawful-at}
 use Rattle.editions.proofs.BestLemmas.{best-act, installs-push}
 use Rattle.editions.proofs.PlaceLemmas.{state_at-place, place-key}
@@ -71,6 +71,10 @@ module _ (fleet : List Craft) (flights : List Flight) (request : Request) (key :
   pub keys-kept : HasAsked fleet flights request key place x answer → IfOk answer (KeepsKey key)
   keys-kept a = subst (λ (k : List ℕ). IfOk answer (KeepsKey k)) (sym a.key_is)
       (keep-key fleet (nat_le 2000 (length flights)) (state_at flights place) request a.asked.same x answer a.asked.asks (λ s there. own-key a.at place refl s there ∙ a.key_is) a.given)
+
+  -- and the figures that it had, where the act leaves them
+  pub figures-kept : HasAsked fleet flights request key place x answer → keeps_figures x ≡ true → IfOk answer (KeepsFigures (state_at flights place))
+  figures-kept a keeps = keep-figures fleet (nat_le 2000 (length flights)) (state_at flights place) x answer keeps a.given
 
   -- and is sound, since the act may come to the flight
   pub may-come : HasAsked fleet flights request key place x answer → IsWithinLimits request → IsLawfulAt fleet (state_at flights place) x

@@ -223,6 +223,10 @@ state_at-place flights key (Some i) at =
 pub place-within : (flights : List Flight) (key : List ℕ) (i : ℕ) → IsPlaceOf (states flights) key (Some i) → i < length flights
 place-within flights key i at = let within = (place_some (has key) (states flights) i at).1 in let many = many-states flights in omega (arith, within, many)
 
+-- and it is the one that stands there
+pub held-at : (flights : List Flight) (key : List ℕ) (i : ℕ) → IsPlaceOf (states flights) key (Some i) → (flight : Flight) × (slice_get flights i ≡ Some flight)
+held-at flights key i at = there flights i (place-within flights key i at)
+
 -- the place is that of a flight, where there is one
 pub within-place : (flights : List Flight) (key : List ℕ) (place : Option ℕ) → IsPlaceOf (states flights) key place → IfSome place (λ i. i < length flights)
 within-place flights key None at = tt

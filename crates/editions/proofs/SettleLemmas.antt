@@ -1,9 +1,15 @@
 -- a flight is kept
-use Rattle.std.proofs.Common.{◌≡◌, ℕ, List, Option, Some, All, ◌∙◌, sym, ap, subst}
-use Rattle.std.specs.Prelude.{option_map}
+use Rattle.std.proofs.Common.{◌≡◌, ℕ, List, Option, None, Some, All, ◌∙◌, sym, ap, subst}
+use Rattle.std.specs.Prelude.{option_map, slice_get, IfSome, Result, Ok, Err}
+use Rattle.std.proofs.lemmas.Option.{slice_get-map}
+use Rattle.hold_limits.specs.Problem.{Problem}
+use Rattle.trim.specs.declared.fault.TrimFault.{TrimFault}
+use Rattle.trim.specs.declared.figures.Figures.{Figures}
+use Rattle.trim.specs.Refusals.{IsTaskOf, IsRefused}
 use Rattle.aircraft_file.specs.Craft.{Craft}
 use Rattle.aircraft_file.specs.Lawful.{IsLawfulCraft}
 use Rattle.flight_state.specs.declared.state.FlightState.{FlightState}
+use Rattle.flight_state.specs.Effective.{effective}
 use Rattle.flight_state.specs.Legs.{key_of}
 use Rattle.flight_row.specs.declared.row.Version.TheVariants.{Two}
 use Rattle.flight_row.specs.Loading.{aircraft_of, row_of, Reads}
@@ -12,8 +18,10 @@ use Rattle.keeper.specs.declared.row.KeptRow.{KeptRow}
 use Rattle.keeper.specs.Tables.{Tables, HoldsAfter}
 use Rattle.editions.specs.declared.flights.Flight.{Flight}
 use Rattle.editions.specs.Places.{Table, states, put_in, HasPlace, IsPlaceOf, IsPut}
+use Rattle.editions.specs.Answers.{HasFiguresOf}
 use Rattle.editions.specs.Settled.{IsKept}
 use Rattle.editions.specs.Sound.{IsReady, IsSound, IsTaskAnswer, IsKeptFlight}
+use Rattle.editions.proofs.AnswerLemmas.{kept-at}
 use Rattle.editions.proofs.PlaceLemmas.{IsPut-in, All-put_in}
 
 -- with its aircraft, however it was found
@@ -39,6 +47,29 @@ kept-flight fleet a next flight sound found is task =
       task = subst (λ (s : FlightState). IsTaskAnswer a s flight.task) (sym is) task;
     }
 
+-- a flight with the effective figures of another has its task
+task-as : (a b : Craft) (s next : FlightState) (task : Result Problem TrimFault) → a ≡ b → effective next ≡ effective s → IsTaskAnswer a s task → IsTaskAnswer b next task
+task-as a b s next (Ok task) same figures is = subst (λ (c : Craft). IsTaskOf c (effective next) task) same (subst (λ (f : Figures). IsTaskOf a f task) (sym figures) is)
+task-as a b s next (Err fault) same figures is = (subst (λ (c : Craft). IsRefused c (effective next) fault) same (subst (λ (f : Figures). IsRefused a f fault) (sym figures) is.0), is.1)
+
+-- so one that is stated anew with the figures that it had keeps its task
+pub task-stays : (fleet : List Craft) (a : Craft) (flights : List Flight) (i : ℕ) (flight : Flight) (next : FlightState) → slice_get flights i ≡ Some flight → HasFiguresOf next flight.state → aircraft_of fleet next.leg ≡ Some a
+    → All (IsKeptFlight fleet) flights → IsTaskAnswer a next flight.task
+task-stays fleet a flights i flight next held figures found all =
+    let kept = kept-at fleet flights i flight all held in
+    let there = kept.sound.found in
+    let here : aircraft_of fleet flight.state.leg ≡ Some a = sym (ap (aircraft_of fleet) figures.0) ∙ found in
+    let same : kept.sound.aircraft ≡ a = cc (there, here) in
+    task-as kept.sound.aircraft a flight.state next flight.task same figures.1 kept.task
+
+-- the flight at a place, by its state
+pub figures-at : (flights : List Flight) (i : ℕ) (next : FlightState) → IfSome (slice_get (states flights) i) (HasFiguresOf next) → IfSome (slice_get flights i) (λ flight. HasFiguresOf next flight.state)
+figures-at flights i next is = by_flight (slice_get flights i) (subst (λ (o : Option FlightState). IfSome o (HasFiguresOf next)) (slice_get-map (λ (f : Flight). f.state) flights i) is)
+  where
+    by_flight : (o : Option Flight) → IfSome (option_map (λ (f : Flight). f.state) o) (HasFiguresOf next) → IfSome o (λ flight. HasFiguresOf next flight.state)
+    by_flight None is = tt
+    by_flight (Some flight) is = is
+
 -- what was done to keep it
 pub record HasKept (fleet : List Craft) (a : Craft) (key : List ℕ) (place : Option ℕ) (next : FlightState) (flight : Flight) (row : KeptRow) (old new : List Flight) (held now : Option Tables) : Type 0 where
   pub sound : IsSound fleet next
@@ -46,7 +77,7 @@ pub record HasKept (fleet : List Craft) (a : Craft) (key : List ℕ) (place : Op
   pub own : key_of next.leg ≡ key
   pub at : IsPlaceOf (states old) key place
   pub state : flight.state ≡ next
-  pub task : IsTaskAnswer a next flight.task
+  pub task : All (IsKeptFlight fleet) old → IsTaskAnswer a next flight.task
   pub row_key : row.key ≡ key_of next.leg
   pub row_bytes : row.bytes ≡ row_text Two (row_of a next)
   pub reads : Reads fleet row.bytes next
@@ -60,7 +91,7 @@ kept-is fleet a key place next flight row old new held now k =
     record {
       put = subst (λ (fs : List Flight). IsPut (states old) (states fs) place next) (sym k.put)
           (subst (λ (s : FlightState). IsPut (states old) (states (put_in old place flight)) place s) k.state (IsPut-in old place flight at));
-      sound = λ all. subst (All (IsKeptFlight fleet)) (sym k.put) (All-put_in (IsKeptFlight fleet) old place flight all (kept-flight fleet a next flight k.sound k.found k.state k.task));
+      sound = λ all. subst (All (IsKeptFlight fleet)) (sym k.put) (All-put_in (IsKeptFlight fleet) old place flight all (kept-flight fleet a next flight k.sound k.found k.state (k.task all)));
       committed = record {
         row = row;
         key = k.row_key;

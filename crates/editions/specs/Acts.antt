@@ -1,5 +1,5 @@
 -- what is written down of a request
-use Rattle.std.specs.Prelude.{◌≡◌, ◌↔◌, ℕ, List, Bool, IsTrue, Option, Some}
+use Rattle.std.specs.Prelude.{◌≡◌, ◌↔◌, ℕ, List, Bool, true, false, IsTrue, Option, Some}
 use Rattle.arrayvec.specs.ArrayVec.{ArrayVec}
 use Rattle.certificate.specs.Evidence.{claimed}
 use Rattle.hold_limits.specs.Placement.{IsBest}
@@ -36,3 +36,10 @@ pub record IsActOf (fleet : List Craft) (s : Option FlightState) (request : Requ
   pub same : Bool
   pub exactly : IsTrue same ↔ HasPlanOf fleet s request
   pub asks : IsActWith same request a
+
+-- the act leaves the effective figures of its flight, and so its task, as they are
+abbrev pub keeps_figures : Act → Bool
+keeps_figures (act.NewFlight leg) = false
+keeps_figures (act.Set edition told) = false
+keeps_figures (act.Late edition change) = false
+keeps_figures _ = true

@@ -1,7 +1,8 @@
 -- what is to be done about an act, before anything is kept
-use Rattle.std.specs.Prelude.{◌≡◌, ℕ, List, Bool, true, false, Option, None, Some, IsSomeAnd}
+use Rattle.std.specs.Prelude.{◌≡◌, ℕ, List, Bool, true, false, Option, None, Some, IfSome, IsSomeAnd}
 use Rattle.aircraft_file.specs.Craft.{Craft}
 use Rattle.flight_state.specs.declared.state.FlightState.{FlightState}
+use Rattle.flight_state.specs.Effective.{effective}
 use Rattle.flight_state.specs.Legs.{key_of}
 use Rattle.flight_history.specs.declared.entry.Act.{Act}
 use Rattle.flight_history.specs.declared.reply.Refusal.{Refusal}
@@ -45,6 +46,15 @@ KeepsKey key _ = Unit {0}
 abbrev pub MakesSound : List Craft → Answer → Type 0
 MakesSound fleet (Changed next reply) = IsSound fleet next
 MakesSound fleet _ = Unit {0}
+
+-- the flight has the leg and the effective figures of another
+abbrev pub HasFiguresOf : FlightState → FlightState → Type 0
+HasFiguresOf next s = (next.leg ≡ s.leg) × (effective next ≡ effective s)
+
+-- a flight that is changed has the effective figures that it had
+abbrev pub KeepsFigures : Option FlightState → Answer → Type 0
+KeepsFigures s (Changed next reply) = IfSome s (HasFiguresOf next)
+KeepsFigures s _ = Unit {0}
 
 -- the act may come to the flight, where one is there
 abbrev pub IsLawfulAt : List Craft → Option FlightState → Act → Type 0

@@ -58,6 +58,10 @@ abbrev pub put_in : List Flight → Option ℕ → Flight → List Flight
 put_in flights (Some i) flight = set flights i flight
 put_in flights None flight = flights ++ flight ∷ []
 
+-- the flight at the place stands so, with the task that it had
+abbrev pub IsRestated : List Flight → ℕ → FlightState → List Flight → Type 0
+IsRestated flights place next new = (flight : Flight) → slice_get flights place ≡ Some flight → new ≡ set flights place (record flight { state = next })
+
 -- the flight was put among the others, in place of the one of its key
 pub record IsPut (old new : List FlightState) (place : Option ℕ) (next : FlightState) : Type 0 where
   pub found : (key : List ℕ) → flight_at new key ≡ (if bytes_eq (key_of next.leg) key then Some next else flight_at old key)

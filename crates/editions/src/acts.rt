@@ -1,7 +1,7 @@
 //! What is written down of a request.
 
 ghost use Rattle.std.specs.Prelude.{◌≡◌};
-ghost use Rattle.editions.specs.Acts.{IsActWith, key_asked};
+ghost use Rattle.editions.specs.Acts.{IsActWith, keeps_figures, key_asked};
 
 use flight_history::{Act, Request, copy_of};
 use flight_state::FlightKey;
@@ -21,6 +21,16 @@ pub fn key_of(request: &Request) -> FlightKey
         Request::Depart { key, .. } => key.copy(),
         Request::Show { key, .. } => key.copy(),
     }
+}
+
+/// Whether the act leaves the effective figures of its flight, and so its task, as they are.
+pub fn keeps_figures(act: &Act) -> bool
+    ensures { result ≡ keeps_figures act.now }
+{
+    !matches!(
+        act,
+        Act::NewFlight { .. } | Act::Set { .. } | Act::Late { .. }
+    )
 }
 
 /// What a request asked, where this says whether its plan is for the flight's effective figures.

@@ -3,7 +3,7 @@
 ghost use Rattle.std.specs.Prelude.{◌≡◌, ◌<◌, [], length, slice_get, Some, None, false, OnOk, bytes_eq};
 ghost use Rattle.std.specs.Option.{option_map_or};
 ghost use Rattle.flight_state.specs.Legs.{key_of};
-ghost use Rattle.editions.specs.Places.{states, put_in, HasPlace, IsPlaceOf, IsReserved};
+ghost use Rattle.editions.specs.Places.{states, put_in, HasPlace, IsPlaceOf, IsReserved, IsRestated};
 
 use arrayvec::ArrayVec;
 use base_words::NoMemory;
@@ -124,6 +124,14 @@ impl Flights {
         self.list.reserve(1)?;
         self.places.insert(text_of(key), self.list.len())?;
         Ok(())
+    }
+
+    /// States anew the flight at a place, whose task stays.
+    pub fn restate(&mut self, place: usize, state: FlightState)
+        requires { IsPlaceOf (states self.old.flights) (key_of state.leg) (Some place) }
+        ensures { IsRestated self.old.flights place state self.new.flights }
+    {
+        self.list[place].state = state;
     }
 
     /// Puts a flight in the place of the one of its key, or behind the last.

@@ -11,7 +11,7 @@ ghost use Rattle.editions.specs.Sound.{IsKeptFlight};
 ghost use Rattle.editions.specs.StartRows.{AreFlightsOf};
 ghost use Rattle.editions.specs.Starting.{AreLoaded, IsLoadFault, IsStarted, IsRefusedStart};
 
-use crate::acts::key_of;
+use crate::acts::{keeps_figures, key_of};
 use crate::answers::{Answer, answer_elsewhere, answer_there};
 use crate::asking::act_at;
 use crate::fleet::aircraft_of;
@@ -210,6 +210,7 @@ impl Office {
             &mut self.flights,
             place,
             &key,
+            keeps_figures(&act),
             answer,
         );
         let entry = Entry {

@@ -49,7 +49,7 @@ fn main(rt: HostRuntime) -> io::Result<()> {
     let mut arguments = env::args(&rt)?;
     let (Some(sizes), Some(name)) = (sizes_from(&mut arguments), arguments.next()) else {
         return println!(rt;
-            "usage: office_bench KIND FLIGHTS ENTRIES ROUNDS AIRCRAFT, where KIND is show, set, take, install, release, late, reopen or depart"
+            "usage: office_bench KIND FLIGHTS ENTRIES ROUNDS AIRCRAFT, where KIND is show, set, take, plan, install, release, late, reopen or depart"
         );
     };
     let mut shelf = FileShelf::new(rt);

@@ -21,6 +21,8 @@ pub enum Kind {
     Show,
     Set,
     Take,
+    /// A task is taken, and then a plan made of it, whose certificate is checked.
+    Plan,
     Install,
     Release,
     Late,
@@ -35,6 +37,7 @@ impl Kind {
             "show" => Some(Kind::Show),
             "set" => Some(Kind::Set),
             "take" => Some(Kind::Take),
+            "plan" => Some(Kind::Plan),
             "install" => Some(Kind::Install),
             "release" => Some(Kind::Release),
             "late" => Some(Kind::Late),
@@ -48,7 +51,7 @@ impl Kind {
     fn due(self) -> Heard {
         match self {
             Kind::Show => Heard::Row,
-            Kind::Take => Heard::Task,
+            Kind::Take | Kind::Plan => Heard::Task,
             Kind::Release => Heard::Sheet,
             Kind::Set | Kind::Install | Kind::Late | Kind::Reopen | Kind::Depart => Heard::Edition,
         }
@@ -60,6 +63,7 @@ impl Kind {
             Kind::Show => &[Kind::Show],
             Kind::Set => &[Kind::Set],
             Kind::Take => &[Kind::Set, Kind::Take],
+            Kind::Plan => &[Kind::Set, Kind::Plan],
             Kind::Install => &[Kind::Set, Kind::Take, Kind::Install],
             Kind::Release => &[Kind::Set, Kind::Take, Kind::Install, Kind::Release],
             Kind::Late => &[
@@ -180,7 +184,7 @@ fn request(alloc: Global, flight: &mut Flight, kind: Kind) -> Result<Request, No
             edition,
             part: fuel(),
         },
-        Kind::Take => Request::Take { key, edition },
+        Kind::Take | Kind::Plan => Request::Take { key, edition },
         Kind::Install => Request::Install {
             key,
             edition,
@@ -206,7 +210,11 @@ fn is_accepted(
 ) -> Result<bool, NoMemory> {
     let request = request(alloc, flight, kind)?;
     let reply = desk.ask(alloc, request)?;
-    Ok(flight.hears(reply) == kind.due())
+    let is_due = flight.hears(reply) == kind.due();
+    if kind == Kind::Plan {
+        let _plan = flight.plan(alloc)?;
+    }
+    Ok(is_due)
 }
 
 /// Whether each request of a round was accepted.

@@ -5,7 +5,7 @@ use Rattle.editions.specs.Answers.{IsAnswer, IsLawfulAt, MakesSound}
 use Rattle.editions.specs.Places.{states, state_at, IsPlaceOf}
 use Rattle.editions.specs.Settled.{IsSettledBy}
 use Rattle.editions.specs.Sound.{IsKeptFlight}
-use Rattle.editions.proofs.OfficeLemmas.{HasAsked, HasTurned, keys-kept, may-come, office-after, turn-is, tables-after, books-of}
+use Rattle.editions.proofs.OfficeLemmas.{HasAsked, HasTurned, figures-kept, keys-kept, may-come, office-after, turn-is, tables-after, books-of}
 use Rattle.editions.proofs.PlaceLemmas.{within-place}
 use Rattle.editions.proofs.office.Office.turn.Given as given
 use Rattle.editions.proofs.office.Office.turn.Goals.{After-answer_at-answer, After-push_reserved}
@@ -34,6 +34,11 @@ settle-outcome-requires-clause-place g c = c.place_of-place.ensures
 
 pub settle-outcome-requires-clause-key : goal.settle-outcome-requires-clause-key
 settle-outcome-requires-clause-key g c = keys-kept c.self.inside.fleet.items c.self.inside.flights.flights c.args.request c.key_of-key.result c.place_of-place.result c.act_at-act.result c.answer_at-answer.result (asked g (goal.at.settle-outcome-requires-clause-key g c).After-answer_at-answer)
+
+pub settle-outcome-requires-clause-figures : goal.settle-outcome-requires-clause-figures
+settle-outcome-requires-clause-figures g c same =
+    figures-kept c.self.inside.fleet.items c.self.inside.flights.flights c.args.request c.key_of-key.result c.place_of-place.result c.act_at-act.result c.answer_at-answer.result (asked g (goal.at.settle-outcome-requires-clause-figures g c).After-answer_at-answer)
+    (sym c.keeps_figures.ensures ∙ same)
 
 pub settle-outcome-requires-clause-sound : goal.settle-outcome-requires-clause-sound
 settle-outcome-requires-clause-sound g c =
