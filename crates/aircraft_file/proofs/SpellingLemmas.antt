@@ -4,8 +4,9 @@ use Rattle.std.specs.List.{list_all, AllByRecursion}
 use Rattle.std.proofs.lemmas.Bool.{cases_Bool, and_parts, leb-true, le-leb}
 use Rattle.std.proofs.lemmas.Bool.Decides.{nat_tests}
 use Rattle.std.proofs.lemmas.List.Elements.{All-from_recursion, recursion_from_All}
-use Rattle.hold_parts.specs.Spellings.{IsCapitalOrDigit, IsName}
-use Rattle.aircraft_file.specs.Spellings.{is_capital, is_digit, is_capital_or_digit, is_name, spelled}
+use Rattle.base_words.specs.Letters.{IsCapitalOrDigit, is_capital, is_digit, is_capital_or_digit}
+use Rattle.hold_parts.specs.Spellings.{IsName}
+use Rattle.aircraft_file.specs.Spellings.{is_name, spelled}
 
 passes_letter : (c : ℕ) → IsCapitalOrDigit c → is_capital_or_digit c ≡ true
 passes_letter c (inl capital) = rw (le-leb 65 c capital.0, le-leb c 90 capital.1) refl

@@ -1,21 +1,9 @@
 -- the spellings of the texts of an aircraft file, each as a test
-use Rattle.std.specs.Prelude.{ℕ, ◌+◌, ◌*◌, ◌-◌, ◌^◌, ◌==◌, nat_le, Bool, ◌&&◌, ◌||◌, if◌then◌else◌, List, [], ◌∷◌, length, take, drop, bytes_eq, ℤ, pos, neg_ℤ, unsigned_abs, Option, Some, None}
+use Rattle.std.specs.Prelude.{ℕ, ◌+◌, ◌*◌, ◌-◌, ◌^◌, ◌==◌, nat_le, Bool, ◌&&◌, if◌then◌else◌, List, [], ◌∷◌, length, take, drop, bytes_eq, ℤ, pos, neg_ℤ, unsigned_abs, Option, Some, None}
 use Rattle.std.specs.List.{list_all}
 use Rattle.std.specs.Str.Parse.{digits_value}
 use Rattle.mass_units.specs.Spelling.{index_text}
-
-abbrev pub is_capital : ℕ → Bool
-is_capital c = nat_le 65 c && nat_le c 90
-
-abbrev pub is_digit : ℕ → Bool
-is_digit c = nat_le 48 c && nat_le c 57
-
-abbrev pub is_capital_or_digit : ℕ → Bool
-is_capital_or_digit c = is_capital c || is_digit c
-
--- a number of capitals or digits within these bounds
-abbrev pub is_word : ℕ → ℕ → List ℕ → Bool
-is_word least most text = (nat_le least (length text) && nat_le (length text) most) && list_all is_capital_or_digit text
+use Rattle.base_words.specs.Letters.{is_capital, is_word}
 
 -- a registration: 2 to 10 capitals or digits
 abbrev pub is_registration : List ℕ → Bool

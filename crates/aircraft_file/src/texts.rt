@@ -4,13 +4,13 @@ ghost use Rattle.std.specs.Prelude.{◌≡◌};
 ghost use Rattle.aircraft_file.specs.Spellings.{is_registration, is_version, spelled};
 
 use crate::spelling::{is_registration, is_version};
-use arrayvec::ArrayVec;
+use base_words::Letters;
 use std::marker::Model;
 
 /// An aircraft's registration, written without a hyphen: 2 to 10 of A to Z and 0 to 9.
-#[derive(Debug, Drop)]
+#[derive(Clone, Copy, Debug)]
 pub struct Registration {
-    letters: ArrayVec<u8, 10>,
+    letters: Letters<10>,
 }
 
 impl Model for Registration {
@@ -19,9 +19,11 @@ impl Model for Registration {
 
     ghost Value = { List ℕ };
 
-    ghost view = { λ r. r.letters.items };
+    ghost view = { λ r. r.letters };
 
-    ghost invariant = { λ r. is_registration r.letters.items ≡ true };
+    ghost inverse = { λ letters. record { letters = letters } };
+
+    ghost invariant = { λ r. is_registration r.letters ≡ true };
 }
 
 impl Registration {
@@ -32,18 +34,8 @@ impl Registration {
         if !is_registration(text) {
             return None;
         }
-        let letters = ArrayVec::try_from(text).ok()?;
+        let letters = Letters::read(text)?;
         Some(Registration { letters })
-    }
-
-    /// The same registration.
-    pub fn copy(&self) -> Registration
-        ensures { result ≡ self.now }
-    {
-        match ArrayVec::try_from(self.letters.as_slice()) {
-            Ok(letters) => Registration { letters },
-            Err(_) => unreachable!(),
-        }
     }
 
     /// The letters of the registration.
@@ -55,9 +47,9 @@ impl Registration {
 }
 
 /// The version of an aircraft's cabin and hold, as its messages name it: 1 to 12 of A to Z and 0 to 9.
-#[derive(Debug, Drop)]
+#[derive(Clone, Copy, Debug)]
 pub struct Version {
-    letters: ArrayVec<u8, 12>,
+    letters: Letters<12>,
 }
 
 impl Model for Version {
@@ -66,9 +58,11 @@ impl Model for Version {
 
     ghost Value = { List ℕ };
 
-    ghost view = { λ v. v.letters.items };
+    ghost view = { λ v. v.letters };
 
-    ghost invariant = { λ v. is_version v.letters.items ≡ true };
+    ghost inverse = { λ letters. record { letters = letters } };
+
+    ghost invariant = { λ v. is_version v.letters ≡ true };
 }
 
 impl Version {
@@ -79,18 +73,8 @@ impl Version {
         if !is_version(text) {
             return None;
         }
-        let letters = ArrayVec::try_from(text).ok()?;
+        let letters = Letters::read(text)?;
         Some(Version { letters })
-    }
-
-    /// The same version.
-    pub fn copy(&self) -> Version
-        ensures { result ≡ self.now }
-    {
-        match ArrayVec::try_from(self.letters.as_slice()) {
-            Ok(letters) => Version { letters },
-            Err(_) => unreachable!(),
-        }
     }
 
     /// The letters of the version.

@@ -1,4 +1,5 @@
 pub mod Arrangements
+pub mod LetterLemmas
 pub mod ListLemmas
 pub mod PairLemmas
 pub mod SignedSums

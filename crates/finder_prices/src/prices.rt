@@ -8,7 +8,7 @@ use position_set::PositionSet;
 use std::alloc::Global;
 
 /// Prices of all positions, limits and cliques.
-#[derive(Debug, Drop)]
+#[derive(Clone, Debug, Drop)]
 pub struct Prices {
     pub end: End,
     pub positions: [i64; 64],
@@ -24,16 +24,6 @@ impl Prices {
             positions: [0; 64],
             limits: vec![in alloc; 0; load.limits.len()]?,
             cliques: vec![in alloc; 0; load.cliques.len()]?,
-        })
-    }
-
-    /// The same prices.
-    pub fn copy(&self, alloc: Global) -> Result<Prices, NoMemory> {
-        Ok(Prices {
-            end: self.end,
-            positions: self.positions,
-            limits: self.limits.as_slice().to_vec(alloc)?,
-            cliques: self.cliques.as_slice().to_vec(alloc)?,
         })
     }
 
@@ -123,7 +113,7 @@ fn cliques_worth(cliques: &[PositionSet], prices: &[i64], open: PositionSet) -> 
 }
 
 /// Prices with the costs by them.
-#[derive(Debug, Drop)]
+#[derive(Clone, Debug, Drop)]
 pub struct Held {
     pub prices: Prices,
     pub costs: Costs,
@@ -171,7 +161,7 @@ impl Held {
 }
 
 /// Prices from both ends.
-#[derive(Debug, Drop)]
+#[derive(Clone, Debug, Drop)]
 pub struct Pair {
     pub low: Held,
     pub high: Held,

@@ -197,7 +197,7 @@ impl Raising<'_> {
         serial: usize,
     ) -> Result<Held, NoMemory> {
         let held = Held {
-            prices: prices.copy(self.alloc)?,
+            prices: prices.clone()?,
             costs,
             serial,
         };
@@ -215,7 +215,7 @@ impl Raising<'_> {
         let mut costs = prices.shared_costs(self.load);
         match assign(self.load, self.sets, &costs, ranks) {
             Assigned::Whole { places, worth } => {
-                let mut own = prices.copy(self.alloc)?;
+                let mut own = prices.clone()?;
                 own.positions = worth;
                 costs.charge_each(&worth);
                 let held = Held {
@@ -238,7 +238,7 @@ impl Raising<'_> {
 
     /// The prices from which others are raised, without those that are idle.
     fn start(&self, from: &Prices, standing: &Standing) -> Result<Prices, NoMemory> {
-        let mut prices = from.copy(self.alloc)?;
+        let mut prices = from.clone()?;
         self.drop_cliques(standing, prices.cliques.as_mut_slice());
         self.drop_limits(standing, prices.limits.as_mut_slice());
         prices.positions = [0; 64];

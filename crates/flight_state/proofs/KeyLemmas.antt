@@ -5,7 +5,8 @@ use Rattle.std.specs.List.{list_all}
 use Rattle.std.specs.Str.Parse.{digits_value}
 use Rattle.std.proofs.lemmas.Bool.{and_parts, and_from, eqb-true, le-leb}
 use Rattle.std.proofs.lemmas.List.{length-append, take_at, drop_at}
-use Rattle.flight_state.specs.Spellings.{is_digit, is_flight_name, is_day, is_flight_key}
+use Rattle.base_words.specs.Letters.{is_digit}
+use Rattle.flight_state.specs.Spellings.{is_flight_name, is_day, is_flight_key}
 
 pub two_digits : (text : List ℕ) → is_day text ≡ true → length text ≡ 2
 two_digits text spelled = eqb-true (length text) 2 (and_parts (length text == 2) (list_all is_digit text && (nat_le 1 (digits_value 10 text) && nat_le (digits_value 10 text) 31)) spelled).0

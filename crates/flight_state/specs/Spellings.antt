@@ -1,21 +1,9 @@
 -- the spellings of the small texts of a flight, each as a test
-use Rattle.std.specs.Prelude.{ℕ, ◌-◌, ◌==◌, nat_le, Bool, ◌&&◌, ◌||◌, if◌then◌else◌, List, length, take, drop, codes, bytes_eq, slice_get, false}
+use Rattle.std.specs.Prelude.{ℕ, ◌-◌, ◌==◌, nat_le, Bool, ◌&&◌, if◌then◌else◌, List, length, take, drop, codes, bytes_eq, slice_get, false}
 use Rattle.std.specs.List.{list_all}
 use Rattle.std.specs.Option.{option_map_or}
 use Rattle.std.specs.Str.Parse.{digits_value}
-
-abbrev pub is_capital : ℕ → Bool
-is_capital c = nat_le 65 c && nat_le c 90
-
-abbrev pub is_digit : ℕ → Bool
-is_digit c = nat_le 48 c && nat_le c 57
-
-abbrev pub is_capital_or_digit : ℕ → Bool
-is_capital_or_digit c = is_capital c || is_digit c
-
--- the text has a number of bytes within these bounds
-abbrev pub is_long : ℕ → ℕ → List ℕ → Bool
-is_long least most text = nat_le least (length text) && nat_le (length text) most
+use Rattle.base_words.specs.Letters.{is_capital, is_digit, is_capital_or_digit, is_long}
 
 -- the text without a capital at its end
 abbrev pub without_suffix : List ℕ → List ℕ

@@ -1,11 +1,10 @@
 //! Late changes of a flight that is released.
 
-ghost use Rattle.std.specs.Prelude.{◌≡◌, ◌++◌, ◌∷◌, [], ◌≤◌, ◌<◌, ◌↔◌, length, IsTrue, IfOk, OnOk, OnErr};
+ghost use Rattle.std.specs.Prelude.{◌≡◌, ◌++◌, ◌∷◌, [], ◌≤◌, ◌<◌, ◌↔◌, length, IsTrue, OnOk, OnErr};
 
 use base_words::NoMemory;
 use hold_limits::Name;
-use hold_parts::{Copyable, copied};
-use std::alloc::Global;
+use std::alloc::{AllocError, Global};
 use std::marker::Model;
 
 /// The most late changes of a flight.
@@ -13,7 +12,7 @@ const MOST_CHANGES: usize = 10;
 
 /// A late change: by how many passengers a zone, or by what mass and how many pieces a bulk position differs from the
 /// figures before.
-#[derive(Debug, Drop)]
+#[derive(Clone, Copy, Debug)]
 pub enum Lmc {
     /// The zone counts from 1.
     Cabin {
@@ -28,33 +27,6 @@ pub enum Lmc {
         mass: i32,
         pieces: i16,
     },
-}
-
-impl Copyable for Lmc {
-    fn copy(&self, _alloc: Global) -> Result<Lmc, NoMemory> {
-        match self {
-            Lmc::Cabin {
-                zone,
-                adults,
-                children,
-                infants,
-            } => Ok(Lmc::Cabin {
-                zone: *zone,
-                adults: *adults,
-                children: *children,
-                infants: *infants,
-            }),
-            Lmc::Loose {
-                position,
-                mass,
-                pieces,
-            } => Ok(Lmc::Loose {
-                position: position.copy(),
-                mass: *mass,
-                pieces: *pieces,
-            }),
-        }
-    }
 }
 
 /// The late changes of a flight in their order, at most 10.
@@ -109,13 +81,15 @@ impl Lmcs {
         self.list.push(change)?;
         Ok(())
     }
+}
 
-    /// The same late changes, in memory of their own.
-    pub fn copy(&self, alloc: Global) -> Result<Lmcs, NoMemory>
-        ensures { IfOk result (λ copy. copy ≡ self.now) }
-    {
+impl Clone for Lmcs {
+    ghost is_clone = { λ lmcs copy. copy ≡ lmcs };
+
+    fn clone(&self) -> Result<Lmcs, AllocError> {
+        let alloc = *self.list.allocator();
         Ok(Lmcs {
-            list: copied(alloc, self.list.as_slice())?,
+            list: self.list.as_slice().to_vec(alloc)?,
         })
     }
 }

@@ -1,6 +1,7 @@
 //! The figures of a flight with its late changes.
 
 ghost use Rattle.std.specs.Prelude.{◌≡◌, ◌-◌, ◌≤◌, ◌<◌, ◌^◌, length, find, set, true, IfOk, IfSome};
+ghost use Rattle.std.specs.Cow.{cow_value};
 ghost use Rattle.std.specs.Option.{option_copied};
 ghost use Rattle.flight_state.specs.Effective.{changed, stays_within, up_to_zone, count_in, changed_count, is_at, load_at, place_at, count_with, changed_load, with_load, with_change, with_changes, effective, can_add_load, can_add, can_add_all};
 
@@ -11,6 +12,7 @@ use hold_limits::Name;
 use mass_units::Kg;
 use payload::{Cabin, ZoneCount};
 use std::alloc::Global;
+use std::borrow::Cow;
 use trim::{Figures, LooseFigure, LooseList};
 
 /// The most persons of a kind in a zone, and the most pieces of a loose load.
@@ -37,7 +39,21 @@ pub fn effective(alloc: Global, s: &FlightState) -> Result<Figures, NoMemory>
     requires { can_add_all s.now.base s.now.lmcs ≡ true }
     ensures { IfOk result (λ figures. figures ≡ effective s.now) }
 {
-    with_changes(alloc, s.base.copy(alloc)?, s.lmcs.as_slice())
+    with_changes(alloc, s.base.clone()?, s.lmcs.as_slice())
+}
+
+/// The figures of a flight with its late changes, to be read: where there are no late changes they are not copied.
+pub fn effective_figures<'a>(
+    alloc: Global,
+    s: &'a FlightState,
+) -> Result<Cow<'a, Figures>, NoMemory>
+    requires { can_add_all s.now.base s.now.lmcs ≡ true }
+    ensures { IfOk result (λ figures. cow_value figures ≡ effective s.now) }
+{
+    if s.lmcs.as_slice().is_empty() {
+        return Ok(Cow::Borrowed(&s.base));
+    }
+    Ok(Cow::Owned(effective(alloc, s)?))
 }
 
 /// The figures with late changes added in their order.
@@ -65,7 +81,7 @@ pub fn can_add(figures: &Figures, change: &Lmc) -> bool
             children,
             infants,
         } => {
-            let count = count_in(*zone, figures.cabin.counts());
+            let count = count_in(*zone, figures.cabin.as_slice());
             (1 <= *zone && *zone <= MOST_ZONES)
                 && (stays_within(count.adults, *adults)
                     && (stays_within(count.children, *children)
@@ -99,7 +115,7 @@ pub fn with_change(alloc: Global, figures: Figures, change: &Lmc) -> Result<Figu
             children,
             infants,
         } => {
-            let count = count_in(*zone, cabin.counts());
+            let count = count_in(*zone, cabin.as_slice());
             let count = changed_count(&count, *adults, *children, *infants);
             Ok(Figures {
                 dry,
@@ -220,13 +236,9 @@ fn load_at(loads: &[LooseFigure], name: &Name) -> LooseFigure
     ensures { result ≡ load_at name.now loads.now }
 {
     match first_at(loads, name) {
-        Some(figure) => LooseFigure {
-            position: figure.position.copy(),
-            mass: figure.mass,
-            pieces: figure.pieces,
-        },
+        Some(figure) => *figure,
         None => LooseFigure {
-            position: name.copy(),
+            position: *name,
             mass: Kg(0),
             pieces: 0,
         },

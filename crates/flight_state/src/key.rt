@@ -8,12 +8,13 @@ ghost use Rattle.flight_state.specs.Legs.{key_of};
 use crate::leg::Leg;
 use crate::spelling::is_flight_key;
 use arrayvec::ArrayVec;
+use base_words::Letters;
 use std::marker::Model;
 
 /// The key of a flight: its name, a hyphen, and its day, as `XX210-12`. No two flights of the office have one key.
-#[derive(Debug, Drop)]
+#[derive(Clone, Copy, Debug)]
 pub struct FlightKey {
-    letters: ArrayVec<u8, 10>,
+    letters: Letters<10>,
 }
 
 impl Model for FlightKey {
@@ -22,9 +23,11 @@ impl Model for FlightKey {
 
     ghost Value = { List ℕ };
 
-    ghost view = { λ k. k.letters.items };
+    ghost view = { λ k. k.letters };
 
-    ghost invariant = { λ k. is_flight_key k.letters.items ≡ true };
+    ghost inverse = { λ letters. record { letters = letters } };
+
+    ghost invariant = { λ k. is_flight_key k.letters ≡ true };
 }
 
 impl FlightKey {
@@ -35,7 +38,7 @@ impl FlightKey {
         if !is_flight_key(text) {
             return None;
         }
-        let letters = ArrayVec::try_from(text).ok()?;
+        let letters = Letters::read(text)?;
         Some(FlightKey { letters })
     }
 
@@ -47,16 +50,9 @@ impl FlightKey {
         append(&mut letters, leg.flight.bytes());
         append(&mut letters, b"-");
         append(&mut letters, leg.day.bytes());
-        FlightKey { letters }
-    }
-
-    /// The same key.
-    pub fn copy(&self) -> FlightKey
-        ensures { result ≡ self.now }
-    {
-        match ArrayVec::try_from(self.letters.as_slice()) {
-            Ok(letters) => FlightKey { letters },
-            Err(_) => unreachable!(),
+        match Letters::read(letters.as_slice()) {
+            Some(letters) => FlightKey { letters },
+            None => unreachable!(),
         }
     }
 

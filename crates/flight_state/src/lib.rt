@@ -13,7 +13,7 @@ mod state;
 mod texts;
 
 pub use change::{Lmc, Lmcs};
-pub use changing::{can_add, changed_load, effective, with_change};
+pub use changing::{can_add, changed_load, effective, effective_figures, with_change};
 pub use key::FlightKey;
 pub use leg::Leg;
 pub use state::{FlightState, Stage};

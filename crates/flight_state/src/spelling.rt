@@ -1,44 +1,9 @@
 //! The tests of the small spellings.
 
 ghost use Rattle.std.specs.Prelude.{◌≡◌};
-ghost use Rattle.std.specs.List.{list_all};
-ghost use Rattle.flight_state.specs.Spellings.{is_capital, is_digit, is_capital_or_digit, without_suffix, is_flight_number, is_flight_name, is_day, is_station, is_flight_key};
+ghost use Rattle.flight_state.specs.Spellings.{without_suffix, is_flight_number, is_flight_name, is_day, is_station, is_flight_key};
 
-fn is_capital(letter: u8) -> bool
-    ensures { result ≡ is_capital letter }
-{
-    letter.is_ascii_uppercase()
-}
-
-fn is_digit(letter: u8) -> bool
-    ensures { result ≡ is_digit letter }
-{
-    letter.is_ascii_digit()
-}
-
-fn is_capital_or_digit(letter: u8) -> bool
-    ensures { result ≡ is_capital_or_digit letter }
-{
-    is_capital(letter) || is_digit(letter)
-}
-
-fn are_capitals(text: &[u8]) -> bool
-    ensures { result ≡ list_all is_capital text.now }
-{
-    text.iter().all(|letter| is_capital(*letter))
-}
-
-fn are_digits(text: &[u8]) -> bool
-    ensures { result ≡ list_all is_digit text.now }
-{
-    text.iter().all(|letter| is_digit(*letter))
-}
-
-fn are_capitals_or_digits(text: &[u8]) -> bool
-    ensures { result ≡ list_all is_capital_or_digit text.now }
-{
-    text.iter().all(|letter| is_capital_or_digit(*letter))
-}
+use base_words::{are_capitals, are_capitals_or_digits, are_digits, is_capital};
 
 /// The number of a flight without a letter behind it.
 fn without_suffix(text: &[u8]) -> &[u8]

@@ -1,12 +1,11 @@
 //! The state of a flight.
 
-ghost use Rattle.std.specs.Prelude.{◌≡◌, IfOk};
+ghost use Rattle.std.specs.Prelude.{◌≡◌};
 
 use crate::change::Lmcs;
 use crate::leg::Leg;
-use base_words::NoMemory;
 use hold_limits::Path;
-use std::alloc::Global;
+use std::alloc::AllocError;
 use trim::Figures;
 
 /// How far a flight is.
@@ -39,18 +38,17 @@ pub struct FlightState {
     pub releases: u32,
 }
 
-impl FlightState {
-    /// The same state, in memory of its own.
-    pub fn copy(&self, alloc: Global) -> Result<FlightState, NoMemory>
-        ensures { IfOk result (λ copy. copy ≡ self.now) }
-    {
+impl Clone for FlightState {
+    ghost is_clone = { λ state copy. copy ≡ state };
+
+    fn clone(&self) -> Result<FlightState, AllocError> {
         Ok(FlightState {
-            leg: self.leg.copy(),
+            leg: self.leg,
             edition: self.edition,
             stage: self.stage,
-            base: self.base.copy(alloc)?,
+            base: self.base.clone()?,
             plan: self.plan.clone()?,
-            lmcs: self.lmcs.copy(alloc)?,
+            lmcs: self.lmcs.clone()?,
             releases: self.releases,
         })
     }

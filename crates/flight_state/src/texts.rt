@@ -5,14 +5,14 @@ ghost use Rattle.aircraft_file.specs.Spellings.{spelled};
 ghost use Rattle.flight_state.specs.Spellings.{is_day, is_flight_name, is_station};
 
 use crate::spelling::{is_day, is_flight_name, is_station};
-use arrayvec::ArrayVec;
+use base_words::Letters;
 use std::marker::Model;
 
 /// The name of a flight: an airline's two capitals or digits, a number of 1 to 4 digits, and at most one capital, as
 /// `XX210`.
-#[derive(Debug, Drop)]
+#[derive(Clone, Copy, Debug)]
 pub struct FlightName {
-    letters: ArrayVec<u8, 7>,
+    letters: Letters<7>,
 }
 
 impl Model for FlightName {
@@ -21,9 +21,11 @@ impl Model for FlightName {
 
     ghost Value = { List ℕ };
 
-    ghost view = { λ f. f.letters.items };
+    ghost view = { λ f. f.letters };
 
-    ghost invariant = { λ f. is_flight_name f.letters.items ≡ true };
+    ghost inverse = { λ letters. record { letters = letters } };
+
+    ghost invariant = { λ f. is_flight_name f.letters ≡ true };
 }
 
 impl FlightName {
@@ -34,18 +36,8 @@ impl FlightName {
         if !is_flight_name(text) {
             return None;
         }
-        let letters = ArrayVec::try_from(text).ok()?;
+        let letters = Letters::read(text)?;
         Some(FlightName { letters })
-    }
-
-    /// The same flight.
-    pub fn copy(&self) -> FlightName
-        ensures { result ≡ self.now }
-    {
-        match ArrayVec::try_from(self.letters.as_slice()) {
-            Ok(letters) => FlightName { letters },
-            Err(_) => unreachable!(),
-        }
     }
 
     /// The letters of the flight.
@@ -58,9 +50,9 @@ impl FlightName {
 }
 
 /// The day of a month, as two digits: `01` to `31`.
-#[derive(Debug, Drop)]
+#[derive(Clone, Copy, Debug)]
 pub struct Day {
-    digits: ArrayVec<u8, 2>,
+    digits: Letters<2>,
 }
 
 impl Model for Day {
@@ -69,9 +61,11 @@ impl Model for Day {
 
     ghost Value = { List ℕ };
 
-    ghost view = { λ d. d.digits.items };
+    ghost view = { λ d. d.digits };
 
-    ghost invariant = { λ d. is_day d.digits.items ≡ true };
+    ghost inverse = { λ digits. record { digits = digits } };
+
+    ghost invariant = { λ d. is_day d.digits ≡ true };
 }
 
 impl Day {
@@ -82,18 +76,8 @@ impl Day {
         if !is_day(text) {
             return None;
         }
-        let digits = ArrayVec::try_from(text).ok()?;
+        let digits = Letters::read(text)?;
         Some(Day { digits })
-    }
-
-    /// The same day.
-    pub fn copy(&self) -> Day
-        ensures { result ≡ self.now }
-    {
-        match ArrayVec::try_from(self.digits.as_slice()) {
-            Ok(digits) => Day { digits },
-            Err(_) => unreachable!(),
-        }
     }
 
     /// The two digits of the day.
@@ -106,9 +90,9 @@ impl Day {
 }
 
 /// A station: three capitals.
-#[derive(Debug, Drop)]
+#[derive(Clone, Copy, Debug)]
 pub struct Station {
-    letters: ArrayVec<u8, 3>,
+    letters: Letters<3>,
 }
 
 impl Model for Station {
@@ -117,9 +101,11 @@ impl Model for Station {
 
     ghost Value = { List ℕ };
 
-    ghost view = { λ s. s.letters.items };
+    ghost view = { λ s. s.letters };
 
-    ghost invariant = { λ s. is_station s.letters.items ≡ true };
+    ghost inverse = { λ letters. record { letters = letters } };
+
+    ghost invariant = { λ s. is_station s.letters ≡ true };
 }
 
 impl Station {
@@ -130,18 +116,8 @@ impl Station {
         if !is_station(text) {
             return None;
         }
-        let letters = ArrayVec::try_from(text).ok()?;
+        let letters = Letters::read(text)?;
         Some(Station { letters })
-    }
-
-    /// The same station.
-    pub fn copy(&self) -> Station
-        ensures { result ≡ self.now }
-    {
-        match ArrayVec::try_from(self.letters.as_slice()) {
-            Ok(letters) => Station { letters },
-            Err(_) => unreachable!(),
-        }
     }
 
     /// The letters of the station.

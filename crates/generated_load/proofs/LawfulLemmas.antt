@@ -12,7 +12,8 @@ use Rattle.hold_parts.specs.declared.parts.Combined.{Combined}
 use Rattle.hold_parts.specs.declared.parts.Cumulative.{Cumulative}
 use Rattle.hold_parts.specs.declared.lists.Fit.{Fit}
 use Rattle.hold_parts.specs.Repeats.{same_id}
-use Rattle.hold_parts.specs.Spellings.{IsKind, IsCapital}
+use Rattle.base_words.specs.Letters.{IsCapital}
+use Rattle.hold_parts.specs.Spellings.{IsKind}
 use Rattle.hold_limits.specs.Faults.{hold_fault, task_fault, IsWellSpelled, is_too_heavy}
 use Rattle.hold_limits.proofs.FaultLemmas.{Refuses, refuses-over, guards-position}
 use Rattle.generated_load.specs.Load.{generated_position, generated_positions, generated_hold, generated_item, generated_items, generated_mass, generated_problem}

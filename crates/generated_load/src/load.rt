@@ -2,7 +2,7 @@
 
 ghost use Rattle.std.specs.Prelude.{◌≡◌, ◌+◌, ◌<◌, ◌∷◌, nat_lt, IfOk};
 ghost use Rattle.mass_units.specs.Spelling.{two_digits};
-ghost use Rattle.hold_parts.specs.Spellings.{IsCapital};
+ghost use Rattle.base_words.specs.Letters.{IsCapital};
 ghost use Rattle.generated_load.specs.Load.{generated_name, generated_position, generated_positions, generated_hold, generated_id, generated_mass, generated_items, generated_problem};
 
 use base_words::NoMemory;

@@ -1,14 +1,6 @@
 -- the spellings of a position's name, of a kind of container and of a container's identity
-use Rattle.std.specs.Prelude.{◌≡◌, ℕ, ◌-◌, ◌≤◌, ◌⊎◌, List, length, take, drop, slice_range, All}
-
-abbrev pub IsCapital : ℕ → Type 0
-IsCapital c = (65 ≤ c) × (c ≤ 90)
-
-abbrev pub IsDigit : ℕ → Type 0
-IsDigit c = (48 ≤ c) × (c ≤ 57)
-
-abbrev pub IsCapitalOrDigit : ℕ → Type 0
-IsCapitalOrDigit c = IsCapital c ⊎ IsDigit c
+use Rattle.std.specs.Prelude.{◌≡◌, ℕ, ◌-◌, ◌≤◌, List, length, take, drop, slice_range, All}
+use Rattle.base_words.specs.Letters.{IsCapital, IsDigit, IsCapitalOrDigit}
 
 -- a position's name: 1 to 3 capitals or digits
 pub record IsName (text : List ℕ) : Type 0 where

@@ -3,7 +3,6 @@
 #![tactic(auto)]
 
 mod accepting;
-mod copies;
 mod limit;
 mod lists;
 mod names;
@@ -13,7 +12,6 @@ mod sameness;
 mod spellings;
 mod texts;
 
-pub use copies::{Copyable, copied};
 pub use limit::Limit;
 pub use lists::{Fit, Fits, Places, Sides};
 pub use names::PositionNames;

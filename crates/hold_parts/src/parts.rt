@@ -5,7 +5,7 @@ use crate::texts::{Name, UldId};
 use mass_units::{Band, Kg, Ticks};
 
 /// A position of a hold.
-#[derive(Debug, Drop)]
+#[derive(Clone, Debug, Drop)]
 pub struct Position {
     pub name: Name,
     /// The compartment's number, one digit.
@@ -18,7 +18,7 @@ pub struct Position {
 }
 
 /// The masses on the listed positions are together at most `most`.
-#[derive(Debug, Drop)]
+#[derive(Clone, Debug, Drop)]
 pub struct Combined {
     pub places: Places,
     pub most: Kg,
@@ -34,7 +34,7 @@ pub struct Cumulative {
 }
 
 /// The masses on the right and on the left differ by at most `most`. A position without a side counts for neither.
-#[derive(Debug, Drop)]
+#[derive(Clone, Debug, Drop)]
 pub struct Lateral {
     pub most: Kg,
     /// The positions to the right and to the left of the centre line.
@@ -42,17 +42,26 @@ pub struct Lateral {
 }
 
 /// A container of the offer.
-#[derive(Debug, Drop)]
+#[derive(Clone, Copy, Debug)]
 pub struct Item {
     pub id: UldId,
     pub mass: Kg,
 }
 
-/// A loose load on a bulk position.
+/// A loose load on a bulk position. The default only fills the unused slots of a list.
 #[derive(Clone, Copy, Debug, PartialEq, Eq)]
 pub struct Loose {
     pub position: u8,
     pub mass: Kg,
+}
+
+impl Default for Loose {
+    fn default() -> Loose {
+        Loose {
+            position: 0,
+            mass: Kg(0),
+        }
+    }
 }
 
 /// The indices of a task, in ticks: the take-off index is `base` and the hold index.

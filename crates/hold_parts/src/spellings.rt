@@ -1,43 +1,9 @@
 //! The tests of the small spellings.
 
-ghost use Rattle.std.specs.Prelude.{◌≡◌, ◌⊎◌, ◌↔◌, All, IsTrue};
-ghost use Rattle.hold_parts.specs.Spellings.{IsCapital, IsDigit, IsCapitalOrDigit, IsName, IsKind, IsUldId};
+ghost use Rattle.std.specs.Prelude.{◌↔◌, IsTrue};
+ghost use Rattle.hold_parts.specs.Spellings.{IsName, IsKind, IsUldId};
 
-fn is_capital(letter: u8) -> bool
-    ensures { IsTrue result ↔ IsCapital letter }
-{
-    letter.is_ascii_uppercase()
-}
-
-fn is_digit(letter: u8) -> bool
-    ensures { IsTrue result ↔ IsDigit letter }
-{
-    letter.is_ascii_digit()
-}
-
-fn is_capital_or_digit(letter: u8) -> bool
-    ensures { IsTrue result ↔ IsCapitalOrDigit letter }
-{
-    is_capital(letter) || is_digit(letter)
-}
-
-fn are_capitals(letters: &[u8]) -> bool
-    ensures { IsTrue result ↔ All IsCapital letters.now }
-{
-    letters.iter().all(|letter| is_capital(*letter))
-}
-
-fn are_digits(letters: &[u8]) -> bool
-    ensures { IsTrue result ↔ All IsDigit letters.now }
-{
-    letters.iter().all(|letter| is_digit(*letter))
-}
-
-fn are_capitals_or_digits(letters: &[u8]) -> bool
-    ensures { IsTrue result ↔ All IsCapitalOrDigit letters.now }
-{
-    letters.iter().all(|letter| is_capital_or_digit(*letter))
-}
+use base_words::{are_capitals, are_capitals_or_digits, are_digits};
 
 /// Whether the text spells a position's name.
 pub fn is_name(text: &[u8]) -> bool

@@ -4,13 +4,13 @@ ghost use Rattle.std.specs.Prelude.{◌≡◌, IfSome, IfNone, take};
 ghost use Rattle.hold_parts.specs.Spellings.{IsName, IsUldId};
 
 use crate::spellings::{is_name, is_uld_id};
-use arrayvec::ArrayVec;
+use base_words::Letters;
 use std::marker::Model;
 
 /// A position's name: 1 to 3 of A to Z and 0 to 9.
-#[derive(Debug, Drop)]
+#[derive(Clone, Copy, Debug)]
 pub struct Name {
-    letters: ArrayVec<u8, 3>,
+    letters: Letters<3>,
 }
 
 impl Model for Name {
@@ -19,9 +19,11 @@ impl Model for Name {
 
     ghost Value = { List ℕ };
 
-    ghost view = { λ n. n.letters.items };
+    ghost view = { λ n. n.letters };
 
-    ghost invariant = { λ n. IsName n.letters.items };
+    ghost inverse = { λ letters. record { letters = letters } };
+
+    ghost invariant = { λ n. IsName n.letters };
 }
 
 impl Name {
@@ -33,18 +35,8 @@ impl Name {
         if !is_name(text) {
             return None;
         }
-        let letters = ArrayVec::try_from(text).ok()?;
+        let letters = Letters::read(text)?;
         Some(Name { letters })
-    }
-
-    /// The same name.
-    pub fn copy(&self) -> Name
-        ensures { result ≡ self.now }
-    {
-        match ArrayVec::try_from(self.letters.as_slice()) {
-            Ok(letters) => Name { letters },
-            Err(_) => unreachable!(),
-        }
     }
 
     /// The letters of the name.
@@ -57,9 +49,9 @@ impl Name {
 }
 
 /// The identity of a unit load device: its kind, a serial of 4 or 5 digits and its owner, as `AKE10001XX`.
-#[derive(Debug, Drop)]
+#[derive(Clone, Copy, Debug)]
 pub struct UldId {
-    letters: ArrayVec<u8, 10>,
+    letters: Letters<10>,
 }
 
 impl Model for UldId {
@@ -68,9 +60,11 @@ impl Model for UldId {
 
     ghost Value = { List ℕ };
 
-    ghost view = { λ n. n.letters.items };
+    ghost view = { λ n. n.letters };
 
-    ghost invariant = { λ n. IsUldId n.letters.items };
+    ghost inverse = { λ letters. record { letters = letters } };
+
+    ghost invariant = { λ n. IsUldId n.letters };
 }
 
 impl UldId {
@@ -82,18 +76,8 @@ impl UldId {
         if !is_uld_id(text) {
             return None;
         }
-        let letters = ArrayVec::try_from(text).ok()?;
+        let letters = Letters::read(text)?;
         Some(UldId { letters })
-    }
-
-    /// The same identity.
-    pub fn copy(&self) -> UldId
-        ensures { result ≡ self.now }
-    {
-        match ArrayVec::try_from(self.letters.as_slice()) {
-            Ok(letters) => UldId { letters },
-            Err(_) => unreachable!(),
-        }
     }
 
     /// The kind: the first three letters.

@@ -127,7 +127,7 @@ impl Keeper for FailingKeeper {
         if self.commits.next_call_fails() {
             return Err(self.failure());
         }
-        self.rows.put(row.copy(alloc)?)?;
+        self.rows.put(row.clone()?)?;
         Ok(())
     }
 }

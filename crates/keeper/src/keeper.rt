@@ -6,7 +6,7 @@ ghost use Rattle.keeper.specs.Tables.{Tables, AreAllRows, AreInKeyOrder, HoldsAf
 
 use crate::row::KeptRow;
 use base_words::NoMemory;
-use std::alloc::Global;
+use std::alloc::{AllocError, Global};
 use thiserror::Error;
 
 /// Why a keeper did not do what it was asked. Its tables are as before.
@@ -27,6 +27,17 @@ impl From<NoMemory> for KeepFault {
     ghost from_gives = { λ _ fault. fault ≡ out_of_memory };
 
     fn from(_: NoMemory) -> KeepFault {
+        KeepFault::NoMemory
+    }
+}
+
+impl From<AllocError> for KeepFault {
+    ghost use Rattle.std.specs.Prelude.{◌≡◌};
+    ghost use Rattle.keeper.specs.declared.keeper.KeepFault.TheVariants.{NoMemory as out_of_memory};
+
+    ghost from_gives = { λ _ fault. fault ≡ out_of_memory };
+
+    fn from(_: AllocError) -> KeepFault {
         KeepFault::NoMemory
     }
 }

@@ -48,7 +48,7 @@ impl Keeper for MemoryKeeper {
     }
 
     fn commit(&mut self, alloc: Global, row: &KeptRow) -> Result<(), KeepFault> {
-        self.rows.put(row.copy(alloc)?)?;
+        self.rows.put(row.clone()?)?;
         Ok(())
     }
 }

@@ -42,11 +42,7 @@ impl Rows {
         ensures copies { IfOk result (λ copies. copies.items ≡ self.now) }
         ensures rising { AreInKeyOrder self.now }
     {
-        let mut copies = Vec::new(alloc);
-        for row in &self.list {
-            copies.push(row.copy(alloc)?)?;
-        }
-        Ok(copies)
+        Ok(self.list.as_slice().to_vec(alloc)?)
     }
 
     /// Adds the row, or replaces the one under its key.

@@ -3,7 +3,7 @@ use Rattle.std.proofs.Common.{◌≡◌, ℕ, suc, ◌+◌, ◌≤◌, List, [],
 use Rattle.std.specs.Prelude.{◌≢◌, codes}
 use Rattle.std.proofs.lemmas.List.{append-nil}
 use Rattle.std.proofs.lemmas.List.Elements.{All-nil, All-cons}
-use Rattle.hold_parts.specs.Spellings.{IsCapitalOrDigit}
+use Rattle.base_words.specs.Letters.{IsCapitalOrDigit}
 use Rattle.telex.specs.Elements.{line_text}
 use Rattle.text_lines.specs.Grammar.{Begins}
 use Rattle.ldm_cpm.specs.Messages.{Heading, IsSpelledHeading, Placing, heading_elements, place_lines, IsSpelledPlacing, AreSpelledPlacings}

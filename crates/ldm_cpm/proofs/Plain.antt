@@ -13,9 +13,10 @@ use Rattle.std.proofs.lemmas.Option.{get_or_from_slice_get, slice_get_within}
 use Rattle.std.proofs.lemmas.Str.Parse.{digit_from_value}
 use Rattle.mass_units.specs.Spelling.{number_text}
 use Rattle.mass_units.proofs.SpellingLemmas.{AllDigits-number_text}
-use Rattle.hold_parts.specs.Spellings.{IsCapital, IsDigit, IsCapitalOrDigit, IsName, IsUldId}
+use Rattle.base_words.specs.Letters.{IsCapital, IsDigit, IsCapitalOrDigit, is_capital, is_digit, is_capital_or_digit}
+use Rattle.hold_parts.specs.Spellings.{IsName, IsUldId}
 use Rattle.aircraft_file.specs.Spellings as craft
-use Rattle.flight_state.specs.Spellings.{is_capital, is_digit, is_capital_or_digit, without_suffix, is_flight_name, is_day, is_station}
+use Rattle.flight_state.specs.Spellings.{without_suffix, is_flight_name, is_day, is_station}
 use Rattle.telex.specs.Parts.{is_separator}
 use Rattle.telex.specs.Elements.{IsUndivided}
 

@@ -11,7 +11,8 @@ use Rattle.mass_units.specs.Spelling.{number_text, IsNumber}
 use Rattle.mass_units.specs.declared.Kg.{Kg}
 use Rattle.mass_units.proofs.SpellingLemmas.{number_text-decimal}
 use Rattle.aircraft_file.specs.Spellings as craft
-use Rattle.flight_state.specs.Spellings.{is_capital, is_digit, is_capital_or_digit, is_long, without_suffix, is_flight_number, is_flight_name, is_day, is_station}
+use Rattle.base_words.specs.Letters.{is_capital, is_digit, is_capital_or_digit, is_long}
+use Rattle.flight_state.specs.Spellings.{without_suffix, is_flight_number, is_flight_name, is_day, is_station}
 use Rattle.telex.specs.Elements.{Element, dotted, slashed, line_text}
 use Rattle.telex.specs.Text.{longest_line}
 use Rattle.ldm_cpm.specs.Messages.{Heading, IsSpelledHeading, OnBoard, Placing, heading_elements, crew_elements, load_elements, seat_elements, board_elements, total, content_elements, place_elements, AreLoads, IsSpelledBoard, IsSpelledContent, IsSpelledPlacing}

@@ -1,9 +1,7 @@
 //! What the messages say, borrowed from their texts.
 
-ghost use Rattle.std.specs.Prelude.{◌≡◌};
-
+use base_words::ListOf;
 use mass_units::Kg;
-use std::marker::Model;
 use telex::Part;
 
 /// Which flight a message is about.
@@ -19,44 +17,7 @@ pub struct Head<'a> {
 }
 
 /// Compartments with their masses.
-#[derive(Debug, Drop)]
-pub struct Loads {
-    list: Vec<(u8, Kg)>,
-}
-
-impl Model for Loads {
-    ghost use Rattle.std.specs.Prelude.{List, ℕ};
-    ghost use Rattle.mass_units.specs.declared.Kg.{Kg};
-
-    ghost Value = { List (ℕ × Kg) };
-
-    ghost view = { λ loads. loads.list.items };
-}
-
-impl Loads {
-    /// The compartments with their masses, in the order of the message.
-    pub fn as_slice(&self) -> &[(u8, Kg)]
-        ensures { result.now ≡ self.now }
-    {
-        self.list.as_slice()
-    }
-}
-
-impl From<Vec<(u8, Kg)>> for Loads {
-    ghost from_gives = { λ list loads. loads ≡ list.items };
-
-    fn from(list: Vec<(u8, Kg)>) -> Loads {
-        Loads { list }
-    }
-}
-
-impl From<Loads> for Vec<(u8, Kg)> {
-    ghost from_gives = { λ loads list. list.items ≡ loads };
-
-    fn from(loads: Loads) -> Vec<(u8, Kg)> {
-        loads.list
-    }
-}
+pub type Loads = ListOf<(u8, Kg)>;
 
 /// A load message: what is on board for a destination.
 #[derive(Debug, Drop)]
@@ -82,44 +43,7 @@ pub struct CpmPlace<'a> {
 }
 
 /// The positions of a hold in a container message.
-#[derive(Debug, Drop)]
-pub struct CpmPlaces<'a> {
-    list: Vec<CpmPlace<'a>>,
-}
-
-impl<'a> Model for CpmPlaces<'a> {
-    ghost use Rattle.std.specs.Prelude.{List};
-    ghost use Rattle.ldm_cpm.specs.declared.messages.CpmPlace.{CpmPlace};
-
-    ghost Value = { List CpmPlace };
-
-    ghost view = { λ places. places.list.items };
-}
-
-impl<'a> CpmPlaces<'a> {
-    /// The positions, in the order of the message.
-    pub fn as_slice(&self) -> &[CpmPlace<'a>]
-        ensures { result.now ≡ self.now }
-    {
-        self.list.as_slice()
-    }
-}
-
-impl<'a> From<Vec<CpmPlace<'a>>> for CpmPlaces<'a> {
-    ghost from_gives = { λ list places. places ≡ list.items };
-
-    fn from(list: Vec<CpmPlace<'a>>) -> CpmPlaces<'a> {
-        CpmPlaces { list }
-    }
-}
-
-impl<'a> From<CpmPlaces<'a>> for Vec<CpmPlace<'a>> {
-    ghost from_gives = { λ places list. list.items ≡ places };
-
-    fn from(places: CpmPlaces<'a>) -> Vec<CpmPlace<'a>> {
-        places.list
-    }
-}
+pub type CpmPlaces<'a> = ListOf<CpmPlace<'a>>;
 
 /// A container message: what stands where in the hold.
 #[derive(Debug, Drop)]

@@ -25,7 +25,7 @@ pub fn cabin_load(cabin: &Cabin, zones: &[Zone], averages: &Averages) -> Result<
     ensures refused { (fault : PayFault) →
         (result ≡ Err fault) ↔ IsFirstFault zones.now cabin.now fault }
 {
-    let counts = cabin.counts();
+    let counts = cabin.as_slice();
     if counts.len() > zones.len() {
         return Err(PayFault::ZoneUnknown(zones.len() + 1));
     }

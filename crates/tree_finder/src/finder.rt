@@ -7,7 +7,7 @@ use crate::closing::Closing;
 use crate::cuts::Cut;
 use crate::ground::Ground;
 use crate::ledger::Ledger;
-use crate::opening::{copy_of_pair, free, opening_prices, raised};
+use crate::opening::{free, opening_prices, raised};
 use crate::showing::{append, append_all, firsts, show};
 use base_words::NoMemory;
 use finder_paths::{Met, is_among};
@@ -304,7 +304,7 @@ impl<'a> Finder<'a> {
         let rank = u8::try_from(cut.rank).unwrap_or(u8::MAX);
         append(tree, Operation::Split(rank, cut.first))?;
         if let Some(other) = self.ground.opened(choice.dropped(cut.rank, cut.first)) {
-            let from = copy_of_pair(self.ground.alloc, &own)?;
+            let from = own.clone()?;
             left.push(Pending {
                 choice: other,
                 from,
@@ -324,7 +324,7 @@ impl<'a> Finder<'a> {
         ensures { self.new.looks ≡ self.old.looks }
     {
         if is_first {
-            self.own = Some(copy_of_pair(self.ground.alloc, own)?);
+            self.own = Some(own.clone()?);
         }
         Ok(())
     }
@@ -361,7 +361,7 @@ impl<'a> Finder<'a> {
     fn begun(&self, choice: Choices, from: &Pair) -> Result<Vec<Pending>, NoMemory> {
         let mut left = Vec::new(self.ground.alloc);
         if let Some(open) = self.ground.opened(choice) {
-            let from = copy_of_pair(self.ground.alloc, from)?;
+            let from = from.clone()?;
             left.push(Pending { choice: open, from })?;
         }
         Ok(left)

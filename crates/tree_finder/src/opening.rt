@@ -22,22 +22,6 @@ pub fn free(alloc: Global, load: &Load, end: End, serial: usize) -> Result<Held,
     })
 }
 
-fn copy_of_held(alloc: Global, held: &Held) -> Result<Held, NoMemory> {
-    Ok(Held {
-        prices: held.prices.copy(alloc)?,
-        costs: held.costs,
-        serial: held.serial,
-    })
-}
-
-/// The same prices.
-pub fn copy_of_pair(alloc: Global, pair: &Pair) -> Result<Pair, NoMemory> {
-    Ok(Pair {
-        low: copy_of_held(alloc, &pair.low)?,
-        high: copy_of_held(alloc, &pair.high)?,
-    })
-}
-
 /// Prices raised for a choice from others, in at most so many steps. The paths that were met are added.
 pub fn raised(
     ground: &Ground<'_>,

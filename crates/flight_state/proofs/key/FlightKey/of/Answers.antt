@@ -13,4 +13,5 @@ invariant_of-result c =
     ∙ ap (λ (t : List ℕ). t ++ c.bytes-2.result.now) (c.append-2.ensures ∙ ap (λ (t : List ℕ). t ++ codes "-") (c.append.ensures ∙ ap (λ (t : List ℕ). t ++ c.bytes.result.now) c.new-letters.ensures))
     ∙ ap₂ (λ (x y : List ℕ). (x ++ codes "-") ++ y) c.bytes.ensures.value c.bytes-2.ensures.value
     ∙ append_assoc flight (codes "-") day in
-    ap is_flight_key letters ∙ key_spelled flight day c.bytes.ensures.spelled c.bytes-2.ensures.spelled
+    let whole : c.in-Some.letters ≡ c.append-3.new.letters.items = c.in-Some.ensures.some ∙ c.as_slice.ensures.value in
+    ap is_flight_key (whole ∙ letters) ∙ key_spelled flight day c.bytes.ensures.spelled c.bytes-2.ensures.spelled

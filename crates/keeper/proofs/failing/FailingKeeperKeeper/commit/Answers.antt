@@ -1,9 +1,9 @@
-use Rattle.std.proofs.Common.{ap}
+use Rattle.std.proofs.Common.{ap, rules}
 use Rattle.keeper.specs.Calls.{Store}
 use Rattle.keeper.proofs.RowLemmas.{under-put_copy}
 use Rattle.keeper.proofs.failing.FailingKeeperKeeper.commit.Goals as goal
 
 pub returns-clause-kept : goal.returns-clause-kept
 returns-clause-kept c =
-    under-put_copy c.args.row.now c.in_ok-copy.field-0 c.self.inside.rows c.args.self.now.rows c.put.new.self c.in_ok-put.ensures.put c.in_ok-copy.ensures
+    under-put_copy c.args.row.now c.in_ok-clone.field-0 c.self.inside.rows c.args.self.now.rows c.put.new.self c.in_ok-put.ensures.put (search rules)
     (ap (λ (store : Store). store.rows) c.self.view_is)
