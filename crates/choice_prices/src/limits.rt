@@ -8,7 +8,7 @@ ghost use Rattle.choice_prices.specs.Listing.{limited_resource, limited_resource
 ghost use Rattle.choice_prices.specs.Tariffs.{resource_of, taken_by_mass};
 
 use hold_limits::{Hold, Limit, Task, lateral_difference_of};
-use hold_reach::reference::load_loose;
+use hold_reach::load_loose;
 
 /// A limit that may have a price.
 #[derive(Clone, Copy)]

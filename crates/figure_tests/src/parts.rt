@@ -2,8 +2,7 @@
 use crate::pass;
 use case_rows::Subject;
 use hold_parts::{
-    Copyable, Cumulative, Fit, Fits, Item, Lateral, Limit, Name, Places, Position, Same, UldId,
-    is_kind,
+    Cumulative, Fit, Fits, Item, Lateral, Limit, Name, Places, Position, Same, UldId, is_kind,
 };
 use mass_units::Kg;
 use std::alloc::Global;
@@ -142,7 +141,7 @@ fn lateral(alloc: Global, most: u32, right: bool) -> Result<Lateral, Fail> {
 /// Whether a limit is the same as its copy, and as another one; and how many sides its copy has.
 fn told_of_copy(alloc: Global, other: &Option<Lateral>) -> Result<String, Fail> {
     let one = Some(lateral(alloc, 500, false)?);
-    let copy = one.copy(alloc)?;
+    let copy = one.clone()?;
     let (same, alike) = (one.is_same(&copy), one.is_same(other));
     let sides = copy.map(|limit| limit.sides.as_slice().len());
     Ok(format!(in alloc; "{same} {alike} {sides:?}")?)

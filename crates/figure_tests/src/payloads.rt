@@ -102,7 +102,7 @@ struct Unknown;
 impl Subject for Unknown {
     fn said(&self, alloc: Global, case: &str) -> Result<String, Fail> {
         let cabin = Cabin::from(counts_of(alloc, case)?);
-        let count = cabin.counts().len();
+        let count = cabin.as_slice().len();
         let zones = if count == 1 { &[] } else { ZONES.as_slice() };
         if count <= zones.len() {
             return Err(Fail::new("more zones than the aircraft has"));
@@ -125,7 +125,7 @@ struct Returned;
 impl Subject for Returned {
     fn said(&self, alloc: Global, case: &str) -> Result<String, Fail> {
         let cabin = Cabin::from(counts_of(alloc, case)?);
-        let mut said = format!(in alloc; "{:?}", cabin.counts())?;
+        let mut said = format!(in alloc; "{:?}", cabin.as_slice())?;
         let counts = Vec::from(cabin);
         said.push_str(format!(in alloc; "{:?}", counts.as_slice())?.as_str())?;
         Ok(said)

@@ -99,7 +99,7 @@ length-left hold before [] choice = omega arith
 length-left hold before (item ∷ items) [] = omega arith
 length-left hold before (item ∷ items) (set ∷ choice) = let rest = length-left hold (before ++ (item, set) ∷ []) items choice in omega (arith, rest)
 
--- a container that has no position left after a pass has none after more
+-- a container that has no position left after a pass has none left after any more passes
 empty-times : (n : ℕ) (t : Problem) (choice : Choice) → HasEmpty (narrowed_once t choice) → HasEmpty (narrowed_times n t (narrowed_once t choice))
 empty-times zero t choice empty = empty
 empty-times (suc n) t choice empty =

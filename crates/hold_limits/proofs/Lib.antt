@@ -1,5 +1,6 @@
 pub mod BranchOrderLemmas
 pub mod PlacedLemmas
+pub mod StowageLemmas
 pub mod KeyOrder
 pub mod SoundLemmas
 pub mod EnumerationLemmas

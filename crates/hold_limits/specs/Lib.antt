@@ -4,6 +4,7 @@ pub mod Problem
 pub mod BranchOrder
 pub mod Placement
 pub mod Arms
+pub mod Stowage
 pub mod Faults
 pub mod Bounds
 pub mod Enumeration

@@ -5,7 +5,7 @@ ghost use Rattle.std.specs.Prelude.{◌≡◌, ◌≤◌, ◌↔◌, ◌≤ℤ�
 ghost use Rattle.hold_limits.specs.Faults.{IsLawful};
 ghost use Rattle.hold_limits.specs.Placement.{IsSound, IsAdmissible, KeepsLateralLimit, hold_index, take_off_index, distance_to, distance, lateral_difference};
 
-use crate::moments::{Arm, moment_of};
+use crate::moments::{Arm, moment_in};
 use crate::sound::is_sound;
 use crate::task::{Path, Task};
 use mass_units::Ticks;
@@ -21,7 +21,7 @@ pub fn hold_index_of(task: &Task, prefix: &[u8]) -> Ticks
     ensures bounded { unsigned_abs result.0 ≤ 248000000000 }
     ensures lawful { IsLawful task.now }
 {
-    Ticks(moment_of(task, Arm::Influence, prefix))
+    Ticks(moment_in(task, Arm::Influence, prefix))
 }
 
 /// Whether a hold index, in ticks, is in the task's window. Both ends belong to it.
@@ -80,7 +80,7 @@ pub fn lateral_difference_of(task: &Task, prefix: &[u8]) -> i64
     ensures bounded { unsigned_abs result ≤ 2480000 }
     ensures lawful { IsLawful task.now }
 {
-    moment_of(task, Arm::Side, prefix)
+    moment_in(task, Arm::Side, prefix)
 }
 
 /// The lateral difference of a path, in kilograms, positive towards the right.

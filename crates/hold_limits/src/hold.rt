@@ -9,9 +9,8 @@ ghost use Rattle.hold_limits.specs.Enumeration.{is_accepted, exclude, is_within_
 
 use crate::fault::HoldFault;
 use crate::hold_faults::{fault_of_hold, fault_of_sides, is_pair_among};
-use base_words::NoMemory;
-use hold_parts::{Combined, Copyable, Cumulative, Item, Lateral, Position, Same, are_same, copied};
-use std::alloc::Global;
+use hold_parts::{Combined, Cumulative, Item, Lateral, Position, Same, are_same};
+use std::alloc::AllocError;
 use std::marker::Model;
 
 /// A lawful hold: its positions from nose to tail, and the limits on them.
@@ -33,6 +32,21 @@ impl Model for Hold {
     ghost view = { λ h. layout_under h.lateral h.positions.items h.excludes.items h.combined.items h.cumulative.items };
 
     ghost invariant = { λ h. IsLawfulHold (layout_under h.lateral h.positions.items h.excludes.items h.combined.items h.cumulative.items) };
+}
+
+impl Clone for Hold {
+    ghost is_clone = { λ hold copy. copy ≡ hold };
+
+    fn clone(&self) -> Result<Hold, AllocError> {
+        let alloc = *self.positions.allocator();
+        Ok(Hold {
+            positions: self.positions.as_slice().to_vec(alloc)?,
+            excludes: self.excludes.as_slice().to_vec(alloc)?,
+            combined: self.combined.as_slice().to_vec(alloc)?,
+            cumulative: self.cumulative.as_slice().to_vec(alloc)?,
+            lateral: self.lateral.clone()?,
+        })
+    }
 }
 
 /// The position with this number and its side, where it is listed.
@@ -227,19 +241,6 @@ impl Hold {
         ensures meaning { IsTrue result ↔ Exclude self.now one other }
     {
         is_pair_among(self.excludes(), one, other)
-    }
-
-    /// A hold with the same parts.
-    pub fn copy(&self, alloc: Global) -> Result<Hold, NoMemory>
-        ensures { IfOk result (λ copy. copy ≡ self.now) }
-    {
-        Ok(Hold {
-            positions: copied(alloc, self.positions.as_slice())?,
-            excludes: self.excludes.as_slice().to_vec(alloc)?,
-            combined: copied(alloc, self.combined.as_slice())?,
-            cumulative: self.cumulative.as_slice().to_vec(alloc)?,
-            lateral: self.lateral.copy(alloc)?,
-        })
     }
 
     /// Whether all parts of the holds are the same.

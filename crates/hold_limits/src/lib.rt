@@ -11,6 +11,7 @@ mod moments;
 mod order;
 mod rising;
 mod sound;
+mod stowage;
 mod task;
 mod task_faults;
 
@@ -26,7 +27,9 @@ pub use hold_parts::{
     UldId, is_kind,
 };
 pub use laws::{lawful_bounds, placement_laws, twin_laws};
+pub use moments::{Arm, moment_of};
 pub use order::{branch_order, item_at};
 pub use rising::is_rising;
-pub use sound::is_sound;
+pub use sound::{is_sound, stands_soundly};
+pub use stowage::{Stowage, load_on, stowage_in, stowage_of};
 pub use task::{Path, Task};

@@ -1,170 +1,134 @@
-//! Whether a prefix is sound, tested rule by rule.
+//! Whether containers stand soundly on positions of a hold, tested rule by rule. It looks at every container and at
+//! every limit: it is the plain test that faster ones are compared with.
 
-ghost use Rattle.std.specs.Prelude.{◌≡◌, ◌≢◌, ◌+◌, ◌<◌, ◌≤◌, ◌↔◌, length, All, AllPairs, IsTrue, MatchOption, if◌then◌else◌};
-ghost use Rattle.hold_limits.specs.Placement.{IsAccepted, Exclude, placed, placed_load, loose_load, load_of, IsSound};
+ghost use Rattle.std.specs.Prelude.{◌≡◌, ◌≢◌, ◌≤◌, ◌↔◌, length, zip, All, AllPairs, IsTrue};
+ghost use Rattle.hold_limits.specs.BranchOrder.{order_of, ordered};
+ghost use Rattle.hold_limits.specs.Placement.{IsAccepted, Exclude, loose_load, IsSound};
+ghost use Rattle.hold_limits.specs.Stowage.{KeepsHoldLimits, StandsSoundly};
 ghost use Rattle.hold_parts.specs.Limits.{is_listed, is_counted, is_limited, most_of};
 
 use crate::hold::Hold;
+use crate::order::item_at;
+use crate::stowage::{Stowage, load_on, stowage_in};
 use crate::task::Task;
-use hold_parts::{Combined, Cumulative, Limit, Loose};
-use mass_units::Kg;
+use hold_parts::{Combined, Cumulative, Item, Limit};
 
-fn are_accepted(task: &Task, prefix: &[u8]) -> bool
-    requires { length prefix.now ≤ length task.now.items }
-    ensures { IsTrue result ↔ All (IsAccepted task.now.hold) (placed task.now prefix.now) }
+/// Whether each container's position accepts it.
+fn are_accepted(hold: &Hold, items: &[Item], order: &[u8], prefix: &[u8]) -> bool
+    requires ordered { order.now ≡ order_of items.now }
+    requires short { length prefix.now ≤ length items.now }
+    ensures { IsTrue result ↔ All (IsAccepted hold.now) (zip (ordered items.now) prefix.now) }
 {
     for rank in 0..prefix.len() {
-        if !task.hold().accepts_at(task.at_rank(rank), prefix[rank]) {
+        if !hold.accepts_at(item_at(items, order, rank), prefix[rank]) {
             return false;
         }
     }
     true
 }
 
-fn differs_from_all(number: u8, others: &[u8]) -> bool
-    ensures { IsTrue result ↔ All (λ q. q ≢ number) others.now }
+/// Whether two positions may both be used.
+fn are_compatible(hold: &Hold, one: u8, other: u8) -> bool
+    ensures { IsTrue result ↔ ((one ≢ other) × (Exclude hold.now one other → ⊥)) }
 {
-    others.iter().all(|other| *other != number)
+    one != other && !hold.exclude_each_other(one, other)
 }
 
-fn are_apart(prefix: &[u8]) -> bool
-    ensures { IsTrue result ↔ AllPairs (λ a b. a ≢ b) prefix.now }
+fn is_compatible_with_all(hold: &Hold, number: u8, others: &[u8]) -> bool
+    ensures { IsTrue result ↔ All (λ q. (q ≢ number) × (Exclude hold.now q number → ⊥)) others.now }
+{
+    others
+        .iter()
+        .all(|other| are_compatible(hold, *other, number))
+}
+
+/// Whether each two positions of a prefix may both be used.
+fn are_all_compatible(hold: &Hold, prefix: &[u8]) -> bool
+    ensures { IsTrue result ↔ AllPairs (λ a b. (a ≢ b) × (Exclude hold.now a b → ⊥)) prefix.now }
 {
     for rank in 0..prefix.len() {
-        if !differs_from_all(prefix[rank], &prefix[..rank]) {
+        if !is_compatible_with_all(hold, prefix[rank], &prefix[..rank]) {
             return false;
         }
     }
     true
 }
 
-fn is_excluded_by_none(hold: &Hold, number: u8, others: &[u8]) -> bool
-    ensures { IsTrue result ↔ All (λ q. Exclude hold.now q number → ⊥) others.now }
+fn is_met(stowage: &Stowage, limit: &Limit<'_>) -> bool
+    ensures { IsTrue result ↔ (loose_load (is_limited limit.now) stowage.now.items ≤ most_of limit.now) }
 {
-    for other in others {
-        if hold.exclude_each_other(*other, number) {
-            return false;
-        }
-    }
-    true
+    load_on(stowage.as_slice(), limit) <= u64::from(limit.most())
 }
 
-fn are_compatible(task: &Task, prefix: &[u8]) -> bool
-    ensures { IsTrue result ↔ AllPairs (λ a b. Exclude task.now.hold a b → ⊥) prefix.now }
+fn is_combined_met(stowage: &Stowage, limit: &Combined) -> bool
+    ensures { IsTrue result ↔ (loose_load (is_listed limit.now.places) stowage.now.items ≤ limit.now.most.0) }
 {
-    for rank in 0..prefix.len() {
-        if !is_excluded_by_none(task.hold(), prefix[rank], &prefix[..rank]) {
-            return false;
-        }
-    }
-    true
+    is_met(stowage, &Limit::Listed(limit))
 }
 
-/// What is left of `left` after a mass that counts or does not; None where it is more.
-fn left_after(left: u32, mass: Kg, counts: bool) -> Option<u32>
-    ensures { let load = if counts then mass.0 else 0 in
-        MatchOption result (left < load) (λ rest. rest + load ≡ left) }
-{
-    if counts {
-        left.checked_sub(mass.0)
-    } else {
-        Some(left)
-    }
-}
-
-fn left_after_items(task: &Task, prefix: &[u8], limit: &Limit<'_>, most: u32) -> Option<u32>
-    requires { length prefix.now ≤ length task.now.items }
-    ensures { let load = placed_load (is_limited limit.now) (placed task.now prefix.now) in
-        MatchOption result (most < load) (λ left. left + load ≡ most) }
-{
-    let mut left = most;
-    for rank in 0..prefix.len() {
-        left = left_after(left, task.at_rank(rank).mass, limit.covers(prefix[rank]))?;
-    }
-    Some(left)
-}
-
-fn left_after_loose(loose: &[Loose], limit: &Limit<'_>, most: u32) -> Option<u32>
-    ensures { let load = loose_load (is_limited limit.now) loose.now in
-        MatchOption result (most < load) (λ left. left + load ≡ most) }
-{
-    let mut left = most;
-    for load in loose {
-        left = left_after(left, load.mass, limit.covers(load.position))?;
-    }
-    Some(left)
-}
-
-fn is_met(task: &Task, prefix: &[u8], limit: &Limit<'_>) -> bool
-    requires { length prefix.now ≤ length task.now.items }
-    ensures { IsTrue result ↔ (load_of (is_limited limit.now) task.now prefix.now ≤ most_of limit.now) }
-{
-    match left_after_items(task, prefix, limit, limit.most()) {
-        Some(left) => left_after_loose(task.loose(), limit, left).is_some(),
-        None => false,
-    }
-}
-
-fn is_combined_met(task: &Task, prefix: &[u8], limit: &Combined) -> bool
-    requires { length prefix.now ≤ length task.now.items }
-    ensures { IsTrue result ↔ (load_of (is_listed limit.now.places) task.now prefix.now ≤ limit.now.most.0) }
-{
-    is_met(task, prefix, &Limit::Listed(limit))
-}
-
-fn are_combined_met(task: &Task, prefix: &[u8], limits: &[Combined]) -> bool
-    requires { length prefix.now ≤ length task.now.items }
+fn are_combined_met(stowage: &Stowage, limits: &[Combined]) -> bool
     ensures { IsTrue result ↔ All
-        (λ c. load_of (is_listed c.places) task.now prefix.now ≤ c.most.0) limits.now }
+        (λ limit. loose_load (is_listed limit.places) stowage.now.items ≤ limit.most.0) limits.now }
 {
     for limit in limits {
-        if !is_combined_met(task, prefix, limit) {
+        if !is_combined_met(stowage, limit) {
             return false;
         }
     }
     true
 }
 
-fn is_cumulative_met(task: &Task, prefix: &[u8], limit: &Cumulative) -> bool
-    requires { length prefix.now ≤ length task.now.items }
-    ensures { IsTrue result ↔ (load_of (is_counted limit.now) task.now prefix.now ≤ limit.now.most.0) }
+fn is_cumulative_met(stowage: &Stowage, limit: &Cumulative) -> bool
+    ensures { IsTrue result ↔ (loose_load (is_counted limit.now) stowage.now.items ≤ limit.now.most.0) }
 {
-    is_met(task, prefix, &Limit::Counted(limit))
+    is_met(stowage, &Limit::Counted(limit))
 }
 
-fn are_cumulative_met(task: &Task, prefix: &[u8], limits: &[Cumulative]) -> bool
-    requires { length prefix.now ≤ length task.now.items }
+fn are_cumulative_met(stowage: &Stowage, limits: &[Cumulative]) -> bool
     ensures { IsTrue result ↔ All
-        (λ c. load_of (is_counted c) task.now prefix.now ≤ c.most.0) limits.now }
+        (λ limit. loose_load (is_counted limit) stowage.now.items ≤ limit.most.0) limits.now }
 {
     for limit in limits {
-        if !is_cumulative_met(task, prefix, limit) {
+        if !is_cumulative_met(stowage, limit) {
             return false;
         }
     }
     true
 }
 
-fn are_limits_met(task: &Task, prefix: &[u8]) -> bool
-    requires { length prefix.now ≤ length task.now.items }
-    ensures { IsTrue result ↔ (All (λ c. load_of (is_listed c.places) task.now prefix.now ≤ c.most.0) task.now.hold.combined
-        × All (λ c. load_of (is_counted c) task.now prefix.now ≤ c.most.0) task.now.hold.cumulative) }
+/// Whether what is stowed keeps every combined and every cumulative limit.
+fn are_limits_met(hold: &Hold, stowage: &Stowage) -> bool
+    ensures { IsTrue result ↔ KeepsHoldLimits hold.now stowage.now.items }
 {
-    let hold = task.hold();
-    are_combined_met(task, prefix, hold.combined())
-        && are_cumulative_met(task, prefix, hold.cumulative())
+    are_combined_met(stowage, hold.combined()) && are_cumulative_met(stowage, hold.cumulative())
 }
 
-/// Whether the numbers are a sound prefix of the task. It looks at all of the prefix and at every limit: it is the
-/// plain test that faster ones are compared with.
+/// Whether the containers stand soundly on the positions of a prefix. `order` is the branch order of `items`, and
+/// `stowage` all that lies in the hold then.
+pub fn stands_soundly(
+    hold: &Hold,
+    items: &[Item],
+    order: &[u8],
+    prefix: &[u8],
+    stowage: &Stowage,
+) -> bool
+    requires ordered { order.now ≡ order_of items.now }
+    requires short { length prefix.now ≤ length items.now }
+    ensures { IsTrue result ↔ StandsSoundly hold.now items.now prefix.now stowage.now.items }
+{
+    are_accepted(hold, items, order, prefix)
+        && are_all_compatible(hold, prefix)
+        && are_limits_met(hold, stowage)
+}
+
+/// Whether the numbers are a sound prefix of the task.
 pub fn is_sound(task: &Task, prefix: &[u8]) -> bool
     ensures { IsTrue result ↔ IsSound task.now prefix.now }
 {
-    if prefix.len() > task.items().len() {
+    let items = task.items();
+    if prefix.len() > items.len() {
         return false;
     }
-    are_accepted(task, prefix)
-        && are_apart(prefix)
-        && are_compatible(task, prefix)
-        && are_limits_met(task, prefix)
+    let stowage = stowage_in(task, prefix);
+    stands_soundly(task.hold(), items, task.order(), prefix, &stowage)
 }

@@ -10,7 +10,7 @@ use crate::order::{branch_order, item_at};
 use crate::task_faults::fault_of_task;
 use arrayvec::ArrayVec;
 use base_words::NoMemory;
-use hold_parts::{Indices, Item, Loose, Same, are_same, copied};
+use hold_parts::{Indices, Item, Loose, Same, are_same};
 use mass_units::{Band, Ticks};
 use std::alloc::Global;
 use std::marker::Model;
@@ -86,10 +86,10 @@ impl Task {
     pub fn copy(&self, alloc: Global) -> Result<Task, NoMemory>
         ensures { IfOk result (λ copy. copy ≡ self.now) }
     {
-        let items = copied(alloc, self.items.as_slice())?;
+        let items = self.items.as_slice().to_vec(alloc)?;
         let order = branch_order(&items);
         Ok(Task {
-            hold: self.hold.copy(alloc)?,
+            hold: self.hold.clone()?,
             items,
             loose: self.loose.as_slice().to_vec(alloc)?,
             indices: self.indices,

@@ -11,7 +11,7 @@ ghost use Rattle.hold_partial.specs.Tables.{IsDemand, AreDemands};
 use crate::arrangement::{Ranked, ranks_of};
 use arrayvec::ArrayVec;
 use hold_limits::{Hold, Item, Task};
-use hold_reach::reference::accepts_kind_at;
+use hold_reach::accepts_kind_at;
 use mass_units::Kg;
 use position_set::PositionSet;
 

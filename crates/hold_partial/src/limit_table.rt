@@ -7,8 +7,7 @@ ghost use Rattle.hold_parts.specs.Limits.{is_limited, most_of};
 
 use arrayvec::ArrayVec;
 use hold_limits::{Hold, Limit, Task};
-use hold_reach::RuleBroken;
-use hold_reach::reference::load_loose;
+use hold_reach::{RuleBroken, load_loose};
 
 /// Places in the list of limits.
 pub type LimitList = ArrayVec<u8, 192>;

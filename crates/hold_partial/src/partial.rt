@@ -13,8 +13,7 @@ ghost use Rattle.hold_reach.specs.Rules.{limit_broken, rule_broken};
 use crate::board::Board;
 use crate::outlook::Outlook;
 use hold_limits::Task;
-use hold_reach::reference::broken_limit;
-use hold_reach::{Extent, RuleBroken, gap_to_ideal, meets_window};
+use hold_reach::{Extent, RuleBroken, broken_limit, gap_to_ideal, meets_window};
 use mass_units::Ticks;
 use std::marker::Model;
 

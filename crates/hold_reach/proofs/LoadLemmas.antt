@@ -1,17 +1,22 @@
--- how large the masses and the loads of a lawful task are, and how a load grows by one mass
-use Rattle.std.proofs.Common.{◌≡◌, ℕ, ◌+◌, ◌<◌, ◌≤◌, Bool, true, false, List, length, get_or, take, Some, arith, ap, sym, subst, ◌∙◌}
-use Rattle.std.proofs.lemmas.List.Sums.{sum_by_more}
+-- how large the masses and the loads of a lawful task are, and which limits they break
+use Rattle.std.proofs.Common.{◌≡◌, ℕ, ◌*◌, ◌<◌, ◌≤◌, Bool, true, false, nat_lt, List, length, get_or, Option, Some, All, ap₂, ◌∙◌, arith}
+use Rattle.std.proofs.lemmas.List.Sums.{sum_by-le}
 use Rattle.std.proofs.lemmas.Option.{get_or_from_slice_get, slice_get_within}
-use Rattle.std.specs.Prelude.{slice_get, if◌then◌else◌}
+use Rattle.std.specs.Prelude.{slice_get, position, if◌then◌else◌}
+use Rattle.hold_parts.specs.declared.parts.Combined.{Combined}
+use Rattle.hold_parts.specs.declared.parts.Cumulative.{Cumulative}
 use Rattle.hold_parts.specs.declared.parts.Item.{Item}
 use Rattle.hold_parts.specs.declared.parts.Loose.{Loose}
+use Rattle.hold_parts.specs.Limits.{is_listed, is_counted}
 use Rattle.hold_limits.specs.Problem.{Problem}
 use Rattle.hold_limits.specs.BranchOrder.{ordered}
 use Rattle.hold_limits.specs.Faults.{IsLawful}
-use Rattle.hold_limits.specs.Placement.{placed, placed_load, loose_load}
+use Rattle.hold_limits.specs.Placement.{loose_load}
+use Rattle.hold_limits.specs.Stowage.{stowed}
 use Rattle.hold_limits.proofs.BranchOrderLemmas.{rank-is}
 use Rattle.hold_limits.proofs.LawfulBounds.{lawful-bounds}
-use Rattle.hold_limits.proofs.PlacedLemmas.{placed_load-more}
+use Rattle.hold_limits.proofs.StowageLemmas.{load-stowed}
+use Rattle.hold_reach.specs.Rules.{breaks_combined, breaks_cumulative}
 
 -- a container of a lawful task has at most 20,000 kg
 pub mass-at : (t : Problem) → IsLawful t → (rank : ℕ) (item : Item) → rank < length t.items → slice_get (ordered t.items) rank ≡ Some item → item.mass.0 ≤ 20000
@@ -23,31 +28,32 @@ mass-at t lawful rank item within there =
     let same : item ≡ r.0.1 = cc in
     rw same light
 
-counted-few : (counts : Bool) (mass load : ℕ) → load ≡ (if counts then mass else 0) → mass ≤ 20000 → load ≤ 20000
-counted-few true mass load is few = omega arith
-counted-few false mass load is few = omega arith
+-- the loose loads of a lawful task come to at most 64 times 20,000 kg
+pub loose_load-bound : (is_in : ℕ → Bool) (t : Problem) → IsLawful t → loose_load is_in t.loose ≤ 1280000
+loose_load-bound is_in t lawful =
+    let bounds = lawful-bounds t lawful in
+    let mass : Loose → ℕ = λ l. if is_in l.position then l.mass.0 else 0 in
+    let each : All (λ (l : Loose). mass l ≤ 20000) t.loose = λ k d within. counted-few (is_in (get_or t.loose k d).position) (get_or t.loose k d).mass.0 (bounds.loose_masses k d within) in
+    let most : loose_load is_in t.loose ≤ length t.loose * 20000 = sum_by-le mass 20000 t.loose each in
+    omega (arith, most, bounds.loose)
+  where
+    counted-few : (counts : Bool) (mass : ℕ) → mass ≤ 20000 → (if counts then mass else 0) ≤ 20000
+    counted-few true mass few = few
+    counted-few false mass few = omega arith
 
--- the load of one placed container more
-pub placed_load-step : (is_in : ℕ → Bool) (t : Problem) (prefix : List ℕ) (rank : ℕ) (item : Item) (counts : Bool) (load : ℕ)
-    → IsLawful t → length prefix ≤ length t.items → rank < length prefix → slice_get (ordered t.items) rank ≡ Some item
-    → counts ≡ is_in (get_or prefix rank 0) → load ≡ (if counts then item.mass.0 else 0)
-    → (placed_load is_in (take (rank + 1) (placed t prefix)) ≡ placed_load is_in (take rank (placed t prefix)) + load) × (load ≤ 20000)
-placed_load-step is_in t prefix rank item counts load lawful short within there counted is =
-    let same : load ≡ (if is_in (get_or prefix rank 0) then item.mass.0 else 0) = rw counted at is in (
-      placed_load-more is_in t prefix rank item short within there ∙ ap (λ n. placed_load is_in (take rank (placed t prefix)) + n) (sym same),
-      counted-few counts item.mass.0 load is (mass-at t lawful rank item (omega arith) there),
-    )
+-- the first limit that what is stowed breaks is the first that the prefix breaks
+pub broken_combined-is : (t : Problem) (prefix : List ℕ) (loads : List Loose) (limits : List Combined) (found : Option ℕ)
+    → loads ≡ stowed t.items prefix t.loose → limits ≡ t.hold.combined → found ≡ position (λ (c : Combined). nat_lt c.most.0 (loose_load (is_listed c.places) loads)) limits
+    → found ≡ position (breaks_combined t prefix) t.hold.combined
+broken_combined-is t prefix loads limits found all known is =
+    is
+    ∙ ap₂ (λ (ls : List Loose) (cs : List Combined). position (λ (c : Combined). nat_lt c.most.0 (loose_load (is_listed c.places) ls)) cs) all known
+    ∙ (λ i. position (λ (c : Combined). nat_lt c.most.0 (load-stowed (is_listed c.places) t prefix i)) t.hold.combined)
 
--- the load of one loose load more
-pub loose_load-step : (is_in : ℕ → Bool) (t : Problem) (loose : List Loose) (i : ℕ) (d : Loose) (counts : Bool) (load : ℕ)
-    → IsLawful t → loose ≡ t.loose → i < length loose
-    → counts ≡ is_in (get_or loose i d).position → load ≡ (if counts then (get_or loose i d).mass.0 else 0)
-    → (loose_load is_in (take (i + 1) t.loose) ≡ loose_load is_in (take i t.loose) + load) × (load ≤ 20000)
-loose_load-step is_in t loose i d counts load lawful same within counted is =
-    let there : loose_load is_in (take (i + 1) loose) ≡ loose_load is_in (take i loose) + load =
-    sum_by_more (λ (l : Loose). if is_in l.position then l.mass.0 else 0) loose i d within ∙ ap (λ n. loose_load is_in (take i loose) + n) (sym (rw counted at is)) in
-    let P : List Loose → Type 0 = λ ls. loose_load is_in (take (i + 1) ls) ≡ loose_load is_in (take i ls) + load in
-    let light : (get_or loose i d).mass.0 ≤ 20000 =
-    let Q : List Loose → Type 0 = λ ls. (get_or ls i d).mass.0 ≤ 20000 in
-    subst Q (sym same) ((lawful-bounds t lawful).loose_masses i d (omega (arith, ap length same))) in
-    (subst P same there, counted-few counts _ load is light)
+pub broken_cumulative-is : (t : Problem) (prefix : List ℕ) (loads : List Loose) (limits : List Cumulative) (found : Option ℕ)
+    → loads ≡ stowed t.items prefix t.loose → limits ≡ t.hold.cumulative → found ≡ position (λ (c : Cumulative). nat_lt c.most.0 (loose_load (is_counted c) loads)) limits
+    → found ≡ position (breaks_cumulative t prefix) t.hold.cumulative
+broken_cumulative-is t prefix loads limits found all known is =
+    is
+    ∙ ap₂ (λ (ls : List Loose) (cs : List Cumulative). position (λ (c : Cumulative). nat_lt c.most.0 (loose_load (is_counted c) ls)) cs) all known
+    ∙ (λ i. position (λ (c : Cumulative). nat_lt c.most.0 (load-stowed (is_counted c) t prefix i)) t.hold.cumulative)

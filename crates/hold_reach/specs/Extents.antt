@@ -1,6 +1,5 @@
 -- the three reaches as one question: on which positions the remaining containers may stand, and what they add there
 use Rattle.std.specs.Prelude.{◌≡◌, ◌≢◌, ℕ, ◌≤◌, ℤ, unsigned_abs, Bool, List, [], Option, Some, None}
-use Rattle.std.specs.Int.{int_min, int_max}
 use Rattle.hold_parts.specs.declared.parts.Item.{Item}
 use Rattle.hold_limits.specs.Layout.{Layout}
 use Rattle.hold_limits.specs.Problem.{Problem}
@@ -32,11 +31,6 @@ reached e t prefix = span_from t prefix (may_stand e t prefix) (amount_of e t.ho
 -- both ends of the span are at most so large
 abbrev pub IsBounded : ℕ → Span → Type 0
 IsBounded most span = (unsigned_abs span.low ≤ most) × (unsigned_abs span.high ≤ most)
-
--- the span with one number more
-abbrev pub wider_span : Option Span → ℤ → Span
-wider_span None x = record { low = x; high = x }
-wider_span (Some e) x = record { low = int_min e.low x; high = int_max e.high x }
 
 -- the span from the least to the greatest number of the list, and none where it is empty
 abbrev pub IsSpanOfList : List ℤ → Option Span → Type 0

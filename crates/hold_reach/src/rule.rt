@@ -1,5 +1,9 @@
 //! The rules of a hold that a placement can break.
 
+ghost use Rattle.std.specs.Prelude.{◌≡◌};
+ghost use Rattle.hold_reach.specs.Rules.{has_kind_at};
+
+use hold_limits::{Hold, Item};
 use thiserror::Error;
 
 /// The first rule of a hold that a placement breaks. Positions are given by their numbers, and limits by their
@@ -27,4 +31,14 @@ pub enum RuleBroken {
     /// The load of this cumulative limit would be too great.
     #[error("the load of cumulative limit {0} would be too great")]
     Cumulative(usize),
+}
+
+/// Whether the number is that of a position which accepts containers of this one's kind.
+pub fn accepts_kind_at(hold: &Hold, item: &Item, number: u8) -> bool
+    ensures { result ≡ has_kind_at hold.now item.now number }
+{
+    match hold.positions().get(number as usize) {
+        Some(position) => position.accepts_kind(item),
+        None => false,
+    }
 }

@@ -225,7 +225,7 @@ true false|base=>loose 51 0~base|ideal 50.00000 50.00000=>ideal 50.00000 50.0000
 
 /// The hold of the worked task with these edits.
 fn hold_with(alloc: Global, edits: &str) -> Result<Hold, Fail> {
-    Ok(task_with(alloc, edits)?.hold().copy(alloc)?)
+    Ok(task_with(alloc, edits)?.hold().clone()?)
 }
 
 /// The lateral limit of a hold, its number of sides, and the sides of positions 0 to 5.
@@ -259,7 +259,7 @@ fn a_lateral_limit_gives_positions_their_sides(rt: HostRuntime) -> Result<(), Fa
 
 /// Whether a hold is the same as its copy, and as another one.
 fn told_of_copy(alloc: Global, hold: &Hold, other: &Hold) -> Result<String, Fail> {
-    Ok(format!(in alloc; "{} {}", hold.same(&hold.copy(alloc)?), hold.same(other))?)
+    Ok(format!(in alloc; "{} {}", hold.same(&hold.clone()?), hold.same(other))?)
 }
 
 /// What is told of the hold with sides beside that with the edits of a case, or beside the worked one.

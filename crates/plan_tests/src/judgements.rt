@@ -1,11 +1,11 @@
 // Certificates of small tasks: the worked ones, and many beside a plain program of what makes the first reason.
 use crate::pass;
+use crate::plain_reach::{bound_of, is_prefix_viable};
 use crate::small_tasks::{all_lists, numbers_of, task_with};
 use case_rows::{Subject, field};
 use cert_checker::{NoPlan, Proven, Reject, check as judge};
 use certificate::{Certificate, Claim};
 use hold_limits::{Path, Task, hold_index_of, is_in_window, is_sound, outcome};
-use hold_reach::reference_reach::{bound_of, is_prefix_viable};
 use std::alloc::Global;
 use std::test::Fail;
 

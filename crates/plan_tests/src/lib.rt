@@ -1,6 +1,9 @@
-//! Tests of holds, tasks and partial placements, of the search and of the judgement of certificates.
-//! They stand apart, since a crate with tests is proved twice.
+//! Tests of holds, tasks and partial placements, of the search and of the judgement of certificates, and the plain
+//! programs that they compare with. They stand apart, since a crate with tests is proved twice.
 #![tactic(auto)]
+
+pub mod plain_reach;
+pub mod plain_rules;
 
 #[cfg(test)]
 use case_rows::{Subject, check};

@@ -3,15 +3,16 @@
 ghost use Rattle.std.specs.Prelude.{◌<◌, ◌≡◌, length};
 
 use crate::pass;
+use crate::plain_reach::{
+    bound_of, falls_at, is_position_open, is_prefix_viable, lateral_reach_of, reach_of,
+    wide_bound_of, wide_reach_of,
+};
+use crate::plain_rules::broken_rule;
 use crate::small_tasks::task_from;
 use case_rows::Subject;
 use hold_limits::Task;
 use hold_partial::{Partial, advances};
-use hold_reach::reference::{broken_limit, broken_rule};
-use hold_reach::reference_reach::{
-    bound_of, falls_at, is_position_open, is_prefix_viable, lateral_reach_of, reach_of,
-    wide_bound_of, wide_reach_of,
-};
+use hold_reach::broken_limit;
 use std::alloc::Global;
 use std::test::Fail;
 

@@ -1,7 +1,6 @@
 pub mod BoundLemmas
 pub mod CabinLemmas
 pub mod LooseLemmas
-pub mod StowageLemmas
 pub mod WeighingLemmas
 pub mod WindowLemmas
 pub mod RuleLemmas

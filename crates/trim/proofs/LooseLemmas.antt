@@ -1,15 +1,14 @@
 -- the first place that passes, and what a figure tells of
-use Rattle.std.proofs.Common.{◌≡◌, ℕ, ◌<◌, ◌≤◌, Bool, true, false, if◌then◌else◌, List, [], ◌∷◌, length, get_or, Some, None, refl, ap, arith, nat_lt, ◌*◌, ◌||◌, map, sum_by, All}
+use Rattle.std.proofs.Common.{◌≡◌, ℕ, ◌<◌, ◌≤◌, Bool, true, false, if◌then◌else◌, List, [], ◌∷◌, length, get_or, Some, None, refl, arith, nat_lt, ◌*◌, ◌||◌, map, sum_by, All}
 use Rattle.std.proofs.lemmas.Bool.Decides.{nat_tests}
 use Rattle.std.proofs.lemmas.List.Sums.{position_or_len_is}
 use Rattle.std.proofs.lemmas.List.Sums.{sum_by-le}
 use Rattle.std.specs.List.{position, position_or_len}
 use Rattle.base_words.proofs.Arrangements.{sum_by-map}
+use Rattle.hold_parts.specs.declared.parts.Loose.{Loose}
 use Rattle.aircraft_file.specs.Craft.{Craft}
 use Rattle.trim.specs.declared.figures.LooseFigure.{LooseFigure}
-use Rattle.trim.specs.declared.loose.Stowed.{Stowed}
-use Rattle.trim.specs.Loads.{figure_mass, is_no_load, load_told}
-use Rattle.trim.specs.Stowage.{stowed_loose}
+use Rattle.trim.specs.Loads.{figure_mass, is_no_load, load_told, loose_mass}
 
 pub first-here : {X : Type 0} (p : X → Bool) (xs : List X) (i : ℕ) (d : X) → i < length xs → ((k : ℕ) → k < i → p (get_or xs k d) ≡ false) → p (get_or xs i d) ≡ true → position p xs ≡ Some i
 first-here p xs i d within below here =
@@ -31,20 +30,14 @@ tested-none false x is = cc
 
 -- Lists -------------------------------------------------------------------------------------------
 
-pub map-map : {X Y Z : Type 0} (g : Y → Z) (f : X → Y) (xs : List X) → map (λ x. g (f x)) xs ≡ map g (map f xs)
-map-map g f [] = refl
-map-map g f (x ∷ xs) = ap (λ zs. g (f x) ∷ zs) (map-map g f xs)
-
 -- a figure that is a load has at most 20,000 kg
 figure-light : (none : Bool) (mass : ℕ) → (none || nat_lt 20000 mass) ≡ false → mass ≤ 20000
 figure-light none mass is = grind (arith, nat_tests)
 
 pub loads-light : (a : Craft) (figures : List LooseFigure) → length figures ≤ 64 → ((k : ℕ) → k < length figures → (d : LooseFigure) → is_no_load a (get_or figures k d) ≡ false)
-    → sum_by (λ (s : Stowed). s.mass) (map (λ (figure : LooseFigure). stowed_loose (load_told a figure)) figures) ≤ 1280000
+    → loose_mass (map (load_told a) figures) ≤ 1280000
 loads-light a figures few right =
-    let g : LooseFigure → Stowed = λ figure. stowed_loose (load_told a figure) in
-    let mass : Stowed → ℕ = λ s. s.mass in
     let each : All (λ (figure : LooseFigure). figure_mass a figure ≤ 20000) figures = λ k d within. figure-light _ _ (right k within d) in
     let most : sum_by (λ (figure : LooseFigure). figure_mass a figure) figures ≤ length figures * 20000 = sum_by-le (λ (figure : LooseFigure). figure_mass a figure) 20000 figures each in
-    let same : sum_by mass (map g figures) ≡ sum_by (λ (figure : LooseFigure). figure_mass a figure) figures = sum_by-map mass g figures in
+    let same : loose_mass (map (load_told a) figures) ≡ sum_by (λ (figure : LooseFigure). figure_mass a figure) figures = sum_by-map (λ (l : Loose). l.mass.0) (load_told a) figures in
     omega (arith, most, same)

@@ -1,5 +1,5 @@
 -- the verdicts on a flight, and what they say of its rules
-use Rattle.std.proofs.Common.{◌≡◌, ◌↔◌, ⊎_elim, ℕ, zero, suc, ◌<◌, ◌≤◌, Bool, true, false, not, ◌||◌, nat_lt, IsTrue, List, [], ◌∷◌, length, get_or, filter, refl, ap, sym, ◌∙◌, subst, arith, Contains, rules as std_rules, ◌++◌, map, ap₂, ℤ, ◌+ℤ◌}
+use Rattle.std.proofs.Common.{◌≡◌, ◌↔◌, ⊎_elim, ℕ, zero, suc, ◌<◌, ◌≤◌, Bool, true, false, not, ◌||◌, nat_lt, IsTrue, List, [], ◌∷◌, length, get_or, filter, refl, ap, sym, ◌∙◌, subst, arith, Contains, rules as std_rules, ap₂, ℤ, ◌+ℤ◌}
 use Rattle.std.proofs.lemmas.Bool.{cases_Bool}
 use Rattle.std.proofs.lemmas.Bool.Decides.{nat_tests}
 use Rattle.std.proofs.lemmas.List.Elements.{All-contains, filter_passes}
@@ -11,23 +11,23 @@ use Rattle.mass_limits.specs.MassRule.{is_broken, rules}
 use Rattle.mass_limits.specs.Masses.{zero_fuel_mass, take_off_mass, landing_mass}
 use Rattle.envelope.specs.Outline.{IsInside}
 use Rattle.base_words.specs.Lists.{int_sum_by}
+use Rattle.hold_parts.specs.declared.parts.Loose.{Loose}
 use Rattle.hold_limits.specs.Lateral.{IsWithinLateral}
-use Rattle.hold_limits.specs.Placement.{placed, hold_index, lateral_difference}
+use Rattle.hold_limits.specs.Placement.{hold_index, lateral_difference, loose_moment, loose_lateral, IsSound}
+use Rattle.hold_limits.specs.Stowage.{stowed, StandsSoundly}
+use Rattle.hold_limits.proofs.StowageLemmas.{moment-stowed, sound-stands}
 use Rattle.aircraft_file.specs.Craft.{Craft}
 use Rattle.trim.specs.declared.figures.Figures.{Figures}
-use Rattle.trim.specs.declared.loose.Stowed.{Stowed}
 use Rattle.trim.specs.declared.rules.Rule.{Rule}
 use Rattle.trim.specs.declared.rules.Rule.TheVariants as on
 use Rattle.trim.specs.declared.rules.Verdicts.{Verdicts}
 use Rattle.trim.specs.declared.weighing.Weighed.{Weighed}
-use Rattle.trim.specs.Loads.{offer}
+use Rattle.trim.specs.Loads.{offer, loose_loads}
 use Rattle.trim.specs.Balance.{mass_input, zero_fuel_base, landing_fuel}
 use Rattle.trim.specs.Rules.{Keeps}
-use Rattle.trim.specs.Stowage.{stowage, stowed_item, stowed_moment, stowed_lateral}
 use Rattle.trim.specs.Verdicts.{is_kept_by, KeepsMassRule, stowed_in, hold_index_in, AreVerdicts}
 use Rattle.trim.specs.Weighed.{IsWeighed}
 use Rattle.trim.proofs.PointLemmas.{inside-with}
-use Rattle.trim.proofs.StowageLemmas.{moment-stowage, sound-stands}
 
 -- an element that passes is among those that pass
 pub kept : {X : Type 0} (p : X → Bool) (xs : List X) (x : X) (k : ℕ) → p x ≡ true → k < length xs → get_or xs k x ≡ x → Contains (filter p xs) x
@@ -127,11 +127,14 @@ pub verdicts-tell : (a : Craft) (f : Figures) (path : List ℕ) (w : Weighed) (v
     → (rule : Rule) → IsTrue (is_kept_by v rule) ↔ Keeps a f path rule
 verdicts-tell a f path w v whole is are rule = tell rule
   where
-    stowed : stowed_in f.containers path w ≡ stowage (offer a f) path
-    stowed = ap (λ (zs : List Stowed). map stowed_item (placed (offer a f) path) ++ zs) is.loose
+    all : stowed_in f.containers path w ≡ stowed f.containers path (loose_loads a f)
+    all = ap (stowed f.containers path) is.loose
 
     hold : hold_index_in a f.containers path w ≡ hold_index (offer a f) path
-    hold = moment-stowage (stowed_moment a.hold) (offer a f) path (stowed_in f.containers path w) stowed
+    hold = ap (int_sum_by (loose_moment a.hold)) all ∙ moment-stowed (loose_moment a.hold) (offer a f) path
+
+    sound : StandsSoundly a.hold f.containers path (stowed_in f.containers path w) ↔ IsSound (offer a f) path
+    sound = subst (λ (loads : List Loose). StandsSoundly a.hold f.containers path loads ↔ IsSound (offer a f) path) (sym all) (sound-stands (offer a f) path (omega (arith, whole)))
 
     by_mass : (r : MassRule) (b : Bool) → IsTrue b ↔ KeepsMassRule w.input a.certified r → IsTrue b ↔ KeepsMassRule (mass_input a f) a.certified r
     by_mass r b tells = subst (λ (m : MassInput). IsTrue b ↔ KeepsMassRule m a.certified r) is.input tells
@@ -158,8 +161,8 @@ verdicts-tell a f path w v whole is are rule = tell rule
         let tells = subst (P (mass_input a f)) at (subst (λ (m : MassInput). P m (w.landing_base.0 +ℤ hold_index_in a f.containers path w)) is.input are.landing_envelope) in
         let inside = inside-with a.landing (landing_mass (mass_input a f)) (landing_fuel f) a f path w.landing_base.0 is.landing in
         through tells (inside.1, inside.0)
-    tell on.Hold = through are.hold (sound-stands (offer a f) path (stowed_in f.containers path w) whole stowed)
+    tell on.Hold = through are.hold sound
     tell on.Lateral =
-        let at : int_sum_by (stowed_lateral a.hold) (stowed_in f.containers path w) ≡ lateral_difference (offer a f) path =
-        moment-stowage (stowed_lateral a.hold) (offer a f) path (stowed_in f.containers path w) stowed in
+        let at : int_sum_by (loose_lateral a.hold) (stowed_in f.containers path w) ≡ lateral_difference (offer a f) path =
+        ap (int_sum_by (loose_lateral a.hold)) all ∙ moment-stowed (loose_lateral a.hold) (offer a f) path in
         subst (λ (z : ℤ). IsTrue v.lateral ↔ IsWithinLateral a.hold z) at are.lateral

@@ -1,5 +1,5 @@
 -- a path is admissible for the task of a flight exactly where it is for the flight
-use Rattle.std.proofs.Common.{◌≡◌, ◌↔◌, ⊎_elim, ℕ, ℤ, ◌+ℤ◌, List, refl, ap, sym, ◌∙◌, subst, [], ◌∷◌, map, inl, inr}
+use Rattle.std.proofs.Common.{◌≡◌, ◌↔◌, ⊎_elim, ℕ, ℤ, ◌+ℤ◌, List, refl, ap, sym, ◌∙◌, subst, inl, inr}
 use Rattle.mass_limits.specs.Masses.{zero_fuel_mass, take_off_mass, landing_mass}
 use Rattle.mass_units.specs.declared.Band.{Band}
 use Rattle.mass_units.specs.declared.Ticks.{Ticks}
@@ -12,13 +12,11 @@ use Rattle.hold_limits.specs.Placement.{IsSound, IsAdmissible, hold_index, take_
 use Rattle.aircraft_file.specs.Craft.{Craft}
 use Rattle.trim.specs.declared.figures.Figures.{Figures}
 use Rattle.trim.specs.declared.fault.TrimFault.{TrimFault}
-use Rattle.trim.specs.declared.loose.Stowed.{Stowed}
 use Rattle.trim.specs.declared.weighing.Weighed.{Weighed}
-use Rattle.trim.specs.Loads.{offer, loose_loads}
+use Rattle.trim.specs.Loads.{offer}
 use Rattle.trim.specs.Balance.{mass_input, IsTakeOffBase, IsTakeOffIndex}
 use Rattle.trim.specs.Points.{IsFlightAdmissible, IsClosed, IsOpen, IsRoom, Rooms, AreRooms}
 use Rattle.trim.specs.Refusals.{HasParts, IsFirstClosed, IsRefused}
-use Rattle.trim.specs.Stowage.{stowed_loose}
 use Rattle.trim.specs.Weighed.{IsWeighed, AreRoomsFor, IsWindowFor, IsNoWindowFor}
 use Rattle.trim.proofs.PointLemmas.{window-is}
 
@@ -100,18 +98,6 @@ closed-none a f which path closed flight = ⊎_elim
 
 -- The parts of the task ---------------------------------------------------------------------------
 
-loose_told : Stowed → Loose
-loose_told s = record { position = s.position; mass = record { 0 = s.mass } }
-
-told-back : (loads : List Loose) → map loose_told (map stowed_loose loads) ≡ loads
-unfolding loose_told
-told-back [] = refl
-told-back (l ∷ loads) = ap (λ ls. l ∷ ls) (told-back loads)
-
--- loads that are stowed alike are the same
-stowed-once : (one other : List Loose) → map stowed_loose one ≡ map stowed_loose other → one ≡ other
-stowed-once one other same = sym (told-back one) ∙ ap (map loose_told) same ∙ told-back other
-
 rooms-are : (a : Craft) (f : Figures) (w : Weighed) (rooms : Rooms) → IsWeighed a f w → AreRoomsFor a w rooms → AreRooms a f rooms
 rooms-are a f w rooms is are = record {
   zero_fuel = subst (λ (z : ℤ). IsRoom a.zero_fuel (zero_fuel_mass (mass_input a f)) z rooms.zero_fuel) is.zero_fuel
@@ -121,12 +107,12 @@ rooms-are a f w rooms is are = record {
 }
 
 pub parts-are : (a : Craft) (f : Figures) (w : Weighed) (window : Band) (hold : Layout) (items : List Item) (loose : List Loose) (low high : Ticks) (t : Problem) → IsWeighed a f w → IsWindowFor a w window
-    → hold ≡ a.hold → items ≡ f.containers → map stowed_loose loose ≡ w.loose.items → low ≡ a.ideal.low → high ≡ a.ideal.high
+    → hold ≡ a.hold → items ≡ f.containers → loose ≡ w.loose.items → low ≡ a.ideal.low → high ≡ a.ideal.high
     → t ≡ problem_of hold items loose (indices_of w.take_off_base window.low window.high low high) → HasParts a f t
 parts-are a f w window hold items loose low high t is room same_hold same_items same_loose same_low same_high made = record {
   hold = ap (λ (x : Problem). x.hold) made ∙ same_hold;
   items = ap (λ (x : Problem). x.items) made ∙ same_items;
-  loose = ap (λ (x : Problem). x.loose) made ∙ stowed-once loose (loose_loads a f) (same_loose ∙ is.loose);
+  loose = ap (λ (x : Problem). x.loose) made ∙ same_loose ∙ is.loose;
   base = subst (IsTakeOffBase a f) (sym (ap (λ (x : Problem). x.base) made)) is.take_off;
   rooms = room.rooms;
   rooms_are = rooms-are a f w room.rooms is room.rooms_are;

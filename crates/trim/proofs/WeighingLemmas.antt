@@ -1,25 +1,19 @@
 -- the masses of a flight are numbers of 32 bits
-use Rattle.std.proofs.Common.{◌≡◌, ◌*◌, ◌≤◌, List, length, map, sum_by, ap, ◌∙◌, arith}
+use Rattle.std.proofs.Common.{◌≡◌, ◌*◌, ◌≤◌, length, arith}
 use Rattle.std.proofs.lemmas.List.Sums.{sum_by-le}
-use Rattle.base_words.proofs.Arrangements.{sum_by-map}
 use Rattle.mass_limits.specs.declared.figures.MassInput.{MassInput}
 use Rattle.mass_limits.specs.Masses.{CanBeWeighed}
 use Rattle.hold_parts.specs.declared.parts.Item.{Item}
 use Rattle.aircraft_file.specs.Craft.{Craft}
 use Rattle.trim.specs.declared.figures.Figures.{Figures}
-use Rattle.trim.specs.declared.loose.Stowed.{Stowed}
 use Rattle.trim.specs.Limits.{KeepsLimits}
-use Rattle.trim.specs.Loads.{container_mass, loose_mass, loose_loads}
+use Rattle.trim.specs.Loads.{container_mass}
 use Rattle.trim.specs.Balance.{traffic_mass, mass_input}
-use Rattle.trim.specs.Stowage.{stowed_loose}
 
 pub containers-light : (f : Figures) → KeepsLimits f → container_mass f.containers ≤ 64000000
 containers-light f keeps =
     let most : container_mass f.containers ≤ length f.containers * 1000000 = sum_by-le (λ (item : Item). item.mass.0) 1000000 f.containers keeps.masses in
     omega (arith, most, keeps.containers)
-
-pub loose-mass : (a : Craft) (f : Figures) (loads : List Stowed) → loads ≡ map stowed_loose (loose_loads a f) → sum_by (λ (s : Stowed). s.mass) loads ≡ loose_mass (loose_loads a f)
-loose-mass a f loads is = ap (sum_by (λ (s : Stowed). s.mass)) is ∙ sum_by-map (λ (s : Stowed). s.mass) stowed_loose (loose_loads a f)
 
 pub masses-fit : (a : Craft) (f : Figures) (input : MassInput) → KeepsLimits f → input ≡ mass_input a f → traffic_mass a f ≤ 2000000000 → CanBeWeighed input
 masses-fit a f input keeps is light =

@@ -5,6 +5,5 @@ pub mod Points
 pub mod Rules
 pub mod Refusals
 pub mod Weighed
-pub mod Stowage
 pub mod Verdicts
 pub mod Laws

@@ -1,19 +1,19 @@
 -- which rules a flight keeps, as its calls find out
-use Rattle.std.specs.Prelude.{ℕ, ◌≤◌, ◌↔◌, ℤ, ◌+ℤ◌, Bool, IsTrue, List, ◌++◌, map, zip}
+use Rattle.std.specs.Prelude.{ℕ, ◌≤◌, ◌↔◌, ℤ, ◌+ℤ◌, Bool, IsTrue, List}
 use Rattle.base_words.specs.Lists.{int_sum_by}
 use Rattle.envelope.specs.Outline.{IsInside}
 use Rattle.hold_parts.specs.declared.parts.Item.{Item}
-use Rattle.hold_limits.specs.BranchOrder.{ordered}
+use Rattle.hold_parts.specs.declared.parts.Loose.{Loose}
 use Rattle.hold_limits.specs.Lateral.{IsWithinLateral}
+use Rattle.hold_limits.specs.Placement.{loose_moment, loose_lateral}
+use Rattle.hold_limits.specs.Stowage.{stowed, StandsSoundly}
 use Rattle.mass_limits.specs.declared.figures.Certified.{Certified}
 use Rattle.mass_limits.specs.declared.figures.MassInput.{MassInput}
 use Rattle.mass_limits.specs.declared.figures.MassRule.{MassRule}
 use Rattle.mass_limits.specs.Masses.{ramp_mass, zero_fuel_mass, take_off_mass, landing_mass}
 use Rattle.mass_limits.specs.declared.figures.MassRule.TheVariants as mass
 use Rattle.aircraft_file.specs.Craft.{Craft}
-use Rattle.trim.specs.declared.loose.Stowed.{Stowed}
 use Rattle.trim.specs.declared.weighing.Weighed.{Weighed}
-use Rattle.trim.specs.Stowage.{stowed_item, stowed_moment, stowed_lateral, StandsSoundly}
 use Rattle.trim.specs.declared.rules.Rule.{Rule}
 use Rattle.trim.specs.declared.rules.Rule.TheVariants.{Ramp, ZeroFuel, TakeOff, Landing, Regulated, ZeroFuelEnvelope, TakeOffEnvelope, LandingEnvelope, Hold, Lateral}
 use Rattle.trim.specs.declared.rules.Verdicts.{Verdicts}
@@ -40,12 +40,12 @@ KeepsMassRule m c mass.Landing = landing_mass m ≤ m.regulated_landing.0
 KeepsMassRule m c mass.RegulatedAboveCertified = (m.regulated_take_off.0 ≤ c.take_off.0) × (m.regulated_landing.0 ≤ c.landing.0)
 
 -- all that is stowed where a weighed flight's containers stand on these positions
-abbrev pub stowed_in : List Item → List ℕ → Weighed → List Stowed
-stowed_in items path w = map stowed_item (zip (ordered items) path) ++ w.loose.items
+abbrev pub stowed_in : List Item → List ℕ → Weighed → List Loose
+stowed_in items path w = stowed items path w.loose.items
 
 -- the hold index of a weighed flight
 abbrev pub hold_index_in : Craft → List Item → List ℕ → Weighed → ℤ
-hold_index_in a items path w = int_sum_by (stowed_moment a.hold) (stowed_in items path w)
+hold_index_in a items path w = int_sum_by (loose_moment a.hold) (stowed_in items path w)
 
 -- the verdicts on a weighed flight
 pub record AreVerdicts (a : Craft) (items : List Item) (path : List ℕ) (w : Weighed) (v : Verdicts) : Type 0 where
@@ -58,4 +58,4 @@ pub record AreVerdicts (a : Craft) (items : List Item) (path : List ℕ) (w : We
   pub take_off_envelope : IsTrue v.take_off_envelope ↔ IsInside a.take_off (take_off_mass w.input) (w.take_off_base.0 +ℤ hold_index_in a items path w)
   pub landing_envelope : IsTrue v.landing_envelope ↔ IsInside a.landing (landing_mass w.input) (w.landing_base.0 +ℤ hold_index_in a items path w)
   pub hold : IsTrue v.hold ↔ StandsSoundly a.hold items path (stowed_in items path w)
-  pub lateral : IsTrue v.lateral ↔ IsWithinLateral a.hold (int_sum_by (stowed_lateral a.hold) (stowed_in items path w))
+  pub lateral : IsTrue v.lateral ↔ IsWithinLateral a.hold (int_sum_by (loose_lateral a.hold) (stowed_in items path w))

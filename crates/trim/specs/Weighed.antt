@@ -1,5 +1,5 @@
 -- a flight as its figures weigh it, and the window that its envelopes leave
-use Rattle.std.specs.Prelude.{◌≡◌, ◌≤◌, ◌⊎◌, unsigned_abs, map}
+use Rattle.std.specs.Prelude.{◌≡◌, ◌≤◌, ◌⊎◌, unsigned_abs}
 use Rattle.std.specs.Int.{int_max, int_min}
 use Rattle.mass_units.specs.declared.Band.{Band}
 use Rattle.mass_limits.specs.Masses.{CanBeWeighed, zero_fuel_mass, take_off_mass, landing_mass}
@@ -11,7 +11,6 @@ use Rattle.trim.specs.declared.weighing.Weighed.{Weighed}
 use Rattle.trim.specs.Loads.{loose_loads}
 use Rattle.trim.specs.Balance.{mass_input, zero_fuel_base, IsTakeOffBase, IsLandingBase}
 use Rattle.trim.specs.Points.{IsClosed, IsOpen, IsRoom, Rooms}
-use Rattle.trim.specs.Stowage.{stowed_loose}
 use Rattle.trim.specs.Refusals as refusals
 
 -- the bases lie within 10,000,000,000 index units either way
@@ -27,7 +26,7 @@ pub record IsWeighed (a : Craft) (f : Figures) (w : Weighed) : Type 0 where
   pub zero_fuel : w.zero_fuel_base.0 ≡ zero_fuel_base a f
   pub take_off : IsTakeOffBase a f w.take_off_base.0
   pub landing : IsLandingBase a f w.landing_base.0
-  pub loose : w.loose.items ≡ map stowed_loose (loose_loads a f)
+  pub loose : w.loose.items ≡ loose_loads a f
   -- its masses are numbers of 32 bits
   pub masses : CanBeWeighed w.input
   pub near : AreNear w

@@ -1,6 +1,9 @@
 //! The balance of a flight whose hold is planned.
 
 ghost use Rattle.std.specs.Prelude.{◌≡◌, ◌≤◌, ◌+ℤ◌, unsigned_abs, length, find, Some, IfOk, IfErr};
+ghost use Rattle.base_words.specs.Lists.{int_sum_by};
+ghost use Rattle.hold_limits.specs.Faults.{IsLawfulHold};
+ghost use Rattle.hold_limits.specs.Placement.{loose_moment};
 ghost use Rattle.mass_limits.specs.Masses.{CanBeWeighed, masses_of};
 ghost use Rattle.mass_limits.specs.Underload.{underload_of, is_least, limits};
 ghost use Rattle.trim.specs.Limits.{KeepsLimits};
@@ -10,10 +13,9 @@ ghost use Rattle.trim.specs.Weighed.{AreNear};
 
 use crate::fault::TrimFault;
 use crate::figures::Figures;
-use crate::stowage::{hold_index_of, stowage_of};
 use crate::weighing::{Weighed, weigh};
 use aircraft_file::Aircraft;
-use hold_limits::{Path, branch_order};
+use hold_limits::{Arm, Hold, Path, Stowage, branch_order, moment_of, stowage_of};
 use mass_limits::{Masses, Underload, masses, underload};
 use mass_units::Ticks;
 
@@ -42,8 +44,17 @@ pub fn state_of(a: &Aircraft, f: &Figures, path: &Path) -> Result<Balance, TrimF
     let items = f.containers.as_slice();
     let order = branch_order(items);
     let stowage = stowage_of(items, order.as_slice(), numbers, flight.loose.as_slice());
-    let hold = hold_index_of(a.hold(), stowage.as_slice());
+    let hold = hold_index_of(a.hold(), &stowage);
     Ok(balance_of(a, &flight, hold))
+}
+
+/// The hold index: mass times influence, summed over all that is stowed.
+pub fn hold_index_of(hold: &Hold, stowage: &Stowage) -> Ticks
+    requires lawful { IsLawfulHold hold.now }
+    ensures value { result.0 ≡ int_sum_by (loose_moment hold.now) stowage.now.items }
+    ensures bounded { unsigned_abs result.0 ≤ 100000000000000000 }
+{
+    Ticks(moment_of(hold, Arm::Influence, stowage.as_slice()))
 }
 
 /// The balance of a weighed flight with this hold index.

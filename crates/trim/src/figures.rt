@@ -5,7 +5,6 @@ ghost use Rattle.std.specs.Prelude.{◌≡◌, IfOk};
 use crate::lists::{Items, LooseList};
 use base_words::NoMemory;
 use hold_limits::Name;
-use hold_parts::{Copyable, copied};
 use mass_units::{Kg, Ticks};
 use payload::Cabin;
 use std::alloc::Global;
@@ -40,7 +39,7 @@ pub struct Regulated {
 }
 
 /// A loose load as it is told: the name of its bulk position, what was weighed, and the pieces that were counted.
-#[derive(Debug, Drop)]
+#[derive(Clone, Copy, Debug)]
 pub struct LooseFigure {
     pub position: Name,
     pub mass: Kg,
@@ -48,7 +47,7 @@ pub struct LooseFigure {
 }
 
 /// What is known of a flight before its hold is planned.
-#[derive(Debug, Drop)]
+#[derive(Clone, Debug, Drop)]
 pub struct Figures {
     pub dry: Dry,
     pub fuel: Fuel,
@@ -58,28 +57,11 @@ pub struct Figures {
     pub loose: LooseList,
 }
 
-impl Copyable for LooseFigure {
-    fn copy(&self, _alloc: Global) -> Result<LooseFigure, NoMemory> {
-        Ok(LooseFigure {
-            position: self.position.copy(),
-            mass: self.mass,
-            pieces: self.pieces,
-        })
-    }
-}
-
 impl Figures {
     /// The same figures, in memory of their own.
-    pub fn copy(&self, alloc: Global) -> Result<Figures, NoMemory>
+    pub fn copy(&self, _alloc: Global) -> Result<Figures, NoMemory>
         ensures { IfOk result (λ copy. copy ≡ self.now) }
     {
-        Ok(Figures {
-            dry: self.dry,
-            fuel: self.fuel,
-            regulated: self.regulated,
-            cabin: Cabin::from(self.cabin.counts().to_vec(alloc)?),
-            containers: Items::from(copied(alloc, self.containers.as_slice())?),
-            loose: LooseList::from(copied(alloc, self.loose.as_slice())?),
-        })
+        Ok(self.clone()?)
     }
 }

@@ -17,8 +17,6 @@ mod limits;
 mod lists;
 mod loose;
 mod rules;
-mod sound;
-mod stowage;
 mod task;
 mod weighing;
 mod window;

@@ -30,7 +30,7 @@ impl Figures {
         if !is_fuel_within(&self.fuel) {
             return false;
         }
-        if !are_counts_within(self.cabin.counts()) {
+        if !are_counts_within(self.cabin.as_slice()) {
             return false;
         }
         are_items_within(self.containers.as_slice()) && self.loose.as_slice().len() <= MOST_LOADS

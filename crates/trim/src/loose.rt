@@ -1,27 +1,17 @@
 //! The loose loads of a flight, on the bulk positions that their figures name.
 
-ghost use Rattle.std.specs.Prelude.{◌≡◌, ◌<◌, ◌≤◌, map, position, length, if◌then◌else◌, Some, None, IfSome, IfOk, IfErr, ℕ, sum_by};
-ghost use Rattle.trim.specs.Loads.{is_bulk_named, bulk_number, is_no_load, load_told};
-ghost use Rattle.trim.specs.Stowage.{stowed_loose};
+ghost use Rattle.std.specs.Prelude.{◌≡◌, ◌<◌, ◌≤◌, map, position, length, if◌then◌else◌, Some, None, IfSome, IfOk, IfErr, ℕ};
+ghost use Rattle.trim.specs.Loads.{is_bulk_named, bulk_number, is_no_load, load_told, loose_mass};
 
 use crate::fault::TrimFault;
 use crate::figures::LooseFigure;
 use aircraft_file::Aircraft;
 use arrayvec::ArrayVec;
-use hold_limits::{Hold, Position};
+use hold_limits::{Hold, Loose, Position};
 use payload::loose_mass;
 
-/// A mass on a position of the hold. The default only fills the unused slots of a list.
-#[derive(Clone, Copy, Debug, Default, PartialEq, Eq)]
-pub struct Stowed {
-    /// The number of the position.
-    pub position: u8,
-    /// Kilograms.
-    pub mass: u32,
-}
-
 /// The loose loads of a flight, in the order of its figures.
-pub type LooseLoads = ArrayVec<Stowed, 64>;
+pub type LooseLoads = ArrayVec<Loose, 64>;
 
 fn is_bulk_named(position: &Position, name: &[u8]) -> bool
     ensures { result ≡ is_bulk_named name.now position.now }
@@ -48,22 +38,19 @@ fn bulk_number(hold: &Hold, name: &[u8]) -> Option<u8>
 }
 
 /// The load that a figure tells of. None where no bulk position has its name, or where its mass is over 20,000 kg.
-fn load_told(a: &Aircraft, figure: &LooseFigure) -> Option<Stowed>
-    ensures { result ≡ (if is_no_load a.now figure.now then None else Some (stowed_loose (load_told a.now figure.now))) }
+fn load_told(a: &Aircraft, figure: &LooseFigure) -> Option<Loose>
+    ensures { result ≡ (if is_no_load a.now figure.now then None else Some (load_told a.now figure.now)) }
 {
     let position = bulk_number(a.hold(), figure.position.bytes())?;
     let mass = loose_mass(figure.mass, figure.pieces, a.averages())?;
-    Some(Stowed {
-        position,
-        mass: mass.0,
-    })
+    Some(Loose { position, mass })
 }
 
 /// The loads that the figures tell of, or the place of the first figure that is none.
 pub fn loose_loads(a: &Aircraft, figures: &[LooseFigure]) -> Result<LooseLoads, TrimFault>
     requires { length figures.now ≤ 64 }
-    ensures loads { IfOk result (λ loads. loads.items ≡ map stowed_loose (map (load_told a.now) figures.now)) }
-    ensures light { IfOk result (λ loads. sum_by (λ load. load.mass) loads.items ≤ 1280000) }
+    ensures loads { IfOk result (λ loads. loads.items ≡ map (load_told a.now) figures.now) }
+    ensures light { IfOk result (λ loads. loose_mass loads.items ≤ 1280000) }
     ensures all { IfOk result (λ loads. position (is_no_load a.now) figures.now ≡ None) }
     ensures refused { IfErr result (λ fault. (at : ℕ) × (fault ≡ TrimFault.LooseName at)
         × (position (is_no_load a.now) figures.now ≡ Some at)) }

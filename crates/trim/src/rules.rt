@@ -1,6 +1,10 @@
 //! The rules of a flight, and which of them it breaks.
 
 ghost use Rattle.std.specs.Prelude.{◌≡◌, ◌↔◌, not, length, filter, Contains, IsTrue, IfOk, IfErr};
+ghost use Rattle.base_words.specs.Lists.{int_sum_by};
+ghost use Rattle.hold_limits.specs.Faults.{IsLawfulHold};
+ghost use Rattle.hold_limits.specs.Lateral.{IsWithinLateral};
+ghost use Rattle.hold_limits.specs.Placement.{loose_lateral};
 ghost use Rattle.mass_limits.specs.Masses.{CanBeWeighed};
 ghost use Rattle.trim.specs.Limits.{KeepsLimits};
 ghost use Rattle.trim.specs.Refusals.{IsUnweighed};
@@ -8,15 +12,13 @@ ghost use Rattle.trim.specs.Rules.{AreBroken, all_rules, rule_text};
 ghost use Rattle.trim.specs.Verdicts.{is_kept_by, AreVerdicts};
 ghost use Rattle.trim.specs.Weighed.{AreNear};
 
-use crate::balance::balance_of;
+use crate::balance::{balance_of, hold_index_of};
 use crate::fault::TrimFault;
 use crate::figures::Figures;
-use crate::sound::is_sound;
-use crate::stowage::{hold_index_of, keeps_lateral_limit, stowage_of};
 use crate::weighing::{Weighed, weigh};
 use aircraft_file::Aircraft;
 use arrayvec::ArrayVec;
-use hold_limits::{Path, branch_order};
+use hold_limits::{Arm, Hold, Path, Stowage, branch_order, moment_of, stands_soundly, stowage_of};
 use mass_limits::{MassRule, broken};
 
 /// A rule of a flight. The default only fills the unused slots of a list.
@@ -146,9 +148,8 @@ fn verdicts_on(a: &Aircraft, f: &Figures, path: &Path, flight: &Weighed) -> Verd
     let items = f.containers.as_slice();
     let order = branch_order(items);
     let stowage = stowage_of(items, order.as_slice(), numbers, flight.loose.as_slice());
-    let stowed = stowage.as_slice();
     let hold = a.hold();
-    let balance = balance_of(a, flight, hold_index_of(hold, stowed));
+    let balance = balance_of(a, flight, hold_index_of(hold, &stowage));
     let found = broken(&flight.input, a.certified());
     let masses = found.as_slice();
     Verdicts {
@@ -164,9 +165,17 @@ fn verdicts_on(a: &Aircraft, f: &Figures, path: &Path, flight: &Weighed) -> Verd
             .take_off()
             .inside(balance.masses.take_off, balance.take_off),
         landing_envelope: a.landing().inside(balance.masses.landing, balance.landing),
-        hold: is_sound(hold, items, order.as_slice(), numbers, stowed),
-        lateral: keeps_lateral_limit(hold, stowed),
+        hold: stands_soundly(hold, items, order.as_slice(), numbers, &stowage),
+        lateral: keeps_lateral_limit(hold, &stowage),
     }
+}
+
+/// Whether the lateral difference of what is stowed is within the limit of the hold, if it has one.
+fn keeps_lateral_limit(hold: &Hold, stowage: &Stowage) -> bool
+    requires { IsLawfulHold hold.now }
+    ensures { IsTrue result ↔ IsWithinLateral hold.now (int_sum_by (loose_lateral hold.now) stowage.now.items) }
+{
+    hold.is_within_lateral(moment_of(hold, Arm::Side, stowage.as_slice()))
 }
 
 fn is_listed(rules: &[MassRule], rule: MassRule) -> bool

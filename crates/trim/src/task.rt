@@ -1,24 +1,20 @@
 //! The loading task of a flight.
 
-ghost use Rattle.std.specs.Prelude.{◌≡◌, ◌↔◌, ℕ, List, Err, IfOk, IfErr, map};
+ghost use Rattle.std.specs.Prelude.{◌≡◌, ◌↔◌, ℕ, List, Err, IfOk, IfErr};
 ghost use Rattle.hold_limits.specs.Faults.{IsLawful};
 ghost use Rattle.hold_limits.specs.Placement.{IsAdmissible, take_off_index};
 ghost use Rattle.trim.specs.Limits.{KeepsLimits};
 ghost use Rattle.trim.specs.Balance.{IsTakeOffIndex};
 ghost use Rattle.trim.specs.Points.{IsFlightAdmissible};
 ghost use Rattle.trim.specs.Refusals.{IsTaskOf, IsRefused};
-ghost use Rattle.trim.specs.Stowage.{stowed_loose};
 
 use crate::fault::TrimFault;
 use crate::figures::Figures;
-use crate::loose::Stowed;
 use crate::weighing::weigh;
 use crate::window::window_of;
 use aircraft_file::Aircraft;
 use base_words::NoMemory;
 use hold_limits::{Hold, Item, Loose, Task};
-use hold_parts::copied;
-use mass_units::Kg;
 use std::alloc::Global;
 
 /// The task of placing a flight's containers in the hold of its aircraft, where all three envelopes are kept.
@@ -71,28 +67,14 @@ struct Parts {
 }
 
 /// The hold of the aircraft, the containers of the figures, and these loose loads.
-fn parts_of(alloc: Global, a: &Aircraft, f: &Figures, loose: &[Stowed]) -> Result<Parts, NoMemory>
+fn parts_of(alloc: Global, a: &Aircraft, f: &Figures, loose: &[Loose]) -> Result<Parts, NoMemory>
     ensures hold { IfOk result (λ parts. parts.hold ≡ a.now.hold) }
     ensures items { IfOk result (λ parts. parts.items.items ≡ f.now.containers) }
-    ensures loose { IfOk result (λ parts. map stowed_loose parts.loose.items ≡ loose.now) }
+    ensures loose { IfOk result (λ parts. parts.loose.items ≡ loose.now) }
 {
     Ok(Parts {
-        hold: a.hold().copy(alloc)?,
-        items: copied(alloc, f.containers.as_slice())?,
-        loose: loads_of(alloc, loose)?,
+        hold: a.hold().clone()?,
+        items: f.containers.as_slice().to_vec(alloc)?,
+        loose: loose.to_vec(alloc)?,
     })
-}
-
-/// What is stowed, as loose loads of a task.
-fn loads_of(alloc: Global, stowed: &[Stowed]) -> Result<Vec<Loose>, NoMemory>
-    ensures { IfOk result (λ loads. map stowed_loose loads.items ≡ stowed.now) }
-{
-    let mut loads = Vec::new(alloc);
-    for load in stowed {
-        loads.push(Loose {
-            position: load.position,
-            mass: Kg(load.mass),
-        })?;
-    }
-    Ok(loads)
 }

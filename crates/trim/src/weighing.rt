@@ -1,20 +1,20 @@
 //! What the figures of a flight weigh, and its indices without what the hold adds.
 
-ghost use Rattle.std.specs.Prelude.{◌≡◌, ◌≤◌, ◌<◌, ◌^◌, ◌+ℤ◌, unsigned_abs, sum_by, IfOk, IfErr};
+ghost use Rattle.std.specs.Prelude.{◌≡◌, ◌≤◌, ◌<◌, ◌^◌, ◌+ℤ◌, unsigned_abs, IfOk, IfErr};
 ghost use Rattle.fuel_table.specs.Rows.{IsFuelIndex, IsOutside};
 ghost use Rattle.payload.specs.Load.{load_of};
 ghost use Rattle.payload.specs.PayFault.{IsFirstFault};
 ghost use Rattle.payload.specs.declared.figures.PayFault.{PayFault};
 ghost use Rattle.trim.specs.Limits.{KeepsLimits};
-ghost use Rattle.trim.specs.Loads.{container_mass};
+ghost use Rattle.trim.specs.Loads.{container_mass, loose_mass};
 ghost use Rattle.trim.specs.Refusals.{HasCabin, IsUnweighed};
 ghost use Rattle.trim.specs.Weighed.{IsWeighed};
 
 use crate::fault::TrimFault;
 use crate::figures::Figures;
-use crate::loose::{LooseLoads, Stowed, loose_loads};
+use crate::loose::{LooseLoads, loose_loads};
 use aircraft_file::Aircraft;
-use hold_limits::Item;
+use hold_limits::{Item, Loose};
 use mass_limits::MassInput;
 use mass_units::{Kg, Ticks};
 use payload::{Load, cabin_load};
@@ -122,9 +122,9 @@ fn mass_of_containers(items: &[Item]) -> u32
     items.iter().map(|item| item.mass.0).sum()
 }
 
-fn mass_of_loose(loads: &[Stowed]) -> u32
-    requires { sum_by (λ load. load.mass) loads.now < 2 ^ 32 }
-    ensures { result ≡ sum_by (λ load. load.mass) loads.now }
+fn mass_of_loose(loads: &[Loose]) -> u32
+    requires { loose_mass loads.now < 2 ^ 32 }
+    ensures { result ≡ loose_mass loads.now }
 {
-    loads.iter().map(|load| load.mass).sum()
+    loads.iter().map(|load| load.mass.0).sum()
 }

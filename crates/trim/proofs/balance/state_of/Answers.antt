@@ -1,34 +1,31 @@
-use Rattle.std.proofs.Common.{◌≡◌, ◌++◌, ◌+ℤ◌, ap, ap₂, ◌∙◌, arith, length, map, zip, List}
+use Rattle.std.proofs.Common.{◌≡◌, ◌+ℤ◌, ap, ap₂, ◌∙◌, arith, length, List}
 use Rattle.hold_parts.specs.declared.parts.Item.{Item}
+use Rattle.hold_parts.specs.declared.parts.Loose.{Loose}
 use Rattle.hold_limits.specs.Layout.{Layout}
-use Rattle.hold_limits.specs.BranchOrder.{ordered}
-use Rattle.hold_limits.specs.Placement.{hold_index}
+use Rattle.hold_limits.specs.Placement.{hold_index, loose_moment}
+use Rattle.hold_limits.specs.Stowage.{stowed}
+use Rattle.hold_limits.proofs.StowageLemmas.{moment-stowed}
 use Rattle.mass_limits.specs.Masses.{masses_of}
 use Rattle.base_words.specs.Lists.{int_sum_by}
-use Rattle.trim.specs.declared.loose.Stowed.{Stowed}
-use Rattle.trim.specs.Loads.{offer}
-use Rattle.trim.specs.Stowage.{stowage, stowed_item, stowed_moment}
-use Rattle.trim.proofs.StowageLemmas.{moment-stowage}
+use Rattle.trim.specs.Loads.{offer, loose_loads}
 use Rattle.trim.proofs.balance.state_of.Goals as goal
 
 pub branch_order-order-requires : goal.branch_order-order-requires
 branch_order-order-requires c =
     omega (arith, ap length c.as_slice-items.ensures, c.requires.complete, ap length c.as_slice-numbers.ensures.value, c.as_slice-numbers.ensures.fits)
 
-stowage-is : (c : goal.After-balance_of) → c.stowage_of-stowage.result.items ≡ stowage (offer c.args.a.now c.args.f.now) c.args.path.now.items
-stowage-is c =
-    let w = c.in_ok-flight.ensures.weighed in
+all-stowed : (c : goal.After-balance_of) → c.stowage_of-stowage.result.items ≡ stowed c.args.f.now.containers c.args.path.now.items (loose_loads c.args.a.now c.args.f.now)
+all-stowed c =
     c.stowage_of-stowage.ensures
-    ∙ ap₂ (λ (xs : List Item) (ys : List _). map stowed_item (zip (ordered xs) ys) ++ c.as_slice-2.result.now) c.as_slice-items.ensures c.as_slice-numbers.ensures.value
-    ∙ ap (λ (zs : List Stowed). map stowed_item (zip (ordered c.args.f.now.containers) c.args.path.now.items) ++ zs) (c.as_slice-2.ensures.value ∙ w.loose)
+    ∙ ap₂ (λ (xs : List Item) (ys : List _). stowed xs ys c.as_slice-2.result.now) c.as_slice-items.ensures c.as_slice-numbers.ensures.value
+    ∙ ap (stowed c.args.f.now.containers c.args.path.now.items) (c.as_slice-2.ensures.value ∙ c.in_ok-flight.ensures.weighed.loose)
 
 hold-is : (c : goal.After-balance_of) → c.hold_index_of-hold.result.0 ≡ hold_index (offer c.args.a.now c.args.f.now) c.args.path.now.items
 hold-is c =
     let a = c.args.a.now in
     c.hold_index_of-hold.ensures.value
-    ∙ ap (λ (h : Layout). int_sum_by (stowed_moment h) c.as_slice-3.result.now) c.hold.ensures.value
-    ∙ ap (int_sum_by (stowed_moment a.hold)) c.as_slice-3.ensures.value
-    ∙ moment-stowage (stowed_moment a.hold) (offer a c.args.f.now) c.args.path.now.items c.stowage_of-stowage.result.items (stowage-is c)
+    ∙ ap₂ (λ (h : Layout) (loads : List Loose). int_sum_by (loose_moment h) loads) c.hold.ensures.value (all-stowed c)
+    ∙ moment-stowed (loose_moment a.hold) (offer a c.args.f.now) c.args.path.now.items
 
 pub returns-clause-balance : goal.returns-clause-balance
 returns-clause-balance c =

@@ -1,13 +1,12 @@
-use Rattle.std.proofs.Common.{◌≡◌, ◌+◌, ◌≤◌, ap, ◌∙◌, arith, sum_by, ◌+ℤ◌, unsigned_abs}
+use Rattle.std.proofs.Common.{◌≡◌, ◌+◌, ◌≤◌, ap, ◌∙◌, arith, ◌+ℤ◌, unsigned_abs}
 use Rattle.std.proofs.lemmas.Int.{ints}
 use Rattle.mass_units.specs.declared.Kg.{Kg}
 use Rattle.mass_limits.specs.declared.figures.MassInput.{MassInput}
 use Rattle.payload.specs.Load.{cabin_mass, cabin_index}
 use Rattle.payload.specs.declared.figures.Load.{Load}
-use Rattle.trim.specs.declared.loose.Stowed.{Stowed}
 use Rattle.trim.specs.Loads.{container_mass, loose_mass, loose_loads}
 use Rattle.trim.specs.Balance.{traffic_mass, mass_input, zero_fuel_base}
-use Rattle.trim.proofs.WeighingLemmas.{containers-light, loose-mass, masses-fit}
+use Rattle.trim.proofs.WeighingLemmas.{containers-light, masses-fit}
 use Rattle.trim.proofs.weighing.weigh.Goals as goal
 
 pub mass_of_containers-containers-requires : goal.mass_of_containers-containers-requires
@@ -29,7 +28,7 @@ pub overflow_add-traffic-2 : goal.overflow_add-traffic-2
 overflow_add-traffic-2 c =
     let light = containers-light c.args.f.now c.requires in
     let containers : c.mass_of_containers-containers.result ≡ container_mass c.args.f.now.containers = c.mass_of_containers-containers.ensures ∙ ap container_mass c.as_slice-2.ensures in
-    let loose : c.mass_of_loose.result ≡ sum_by (λ (s : Stowed). s.mass) c.in_ok-loose.loose.items = c.mass_of_loose.ensures ∙ ap (sum_by (λ (s : Stowed). s.mass)) c.as_slice-3.ensures.value in
+    let loose : c.mass_of_loose.result ≡ loose_mass c.in_ok-loose.loose.items = c.mass_of_loose.ensures ∙ ap loose_mass c.as_slice-3.ensures.value in
     omega (arith, light, c.in_ok-cabin.ensures.light, c.in_ok-loose.ensures.light)
 
 pub returns-clause-weighed : goal.returns-clause-weighed
@@ -41,8 +40,8 @@ returns-clause-weighed c =
     let listed = c.as_slice.ensures in
     let loads = rw listed at c.in_ok-loose.ensures.loads in
     let all = rw listed at c.in_ok-loose.ensures.all in
-    let loose_sum : c.mass_of_loose.result ≡ sum_by (λ (s : Stowed). s.mass) c.in_ok-loose.loose.items = c.mass_of_loose.ensures ∙ ap (sum_by (λ (s : Stowed). s.mass)) c.as_slice-3.ensures.value in
-    let loose : c.mass_of_loose.result ≡ loose_mass (loose_loads a f) = loose_sum ∙ loose-mass a f c.in_ok-loose.loose.items loads in
+    let told : c.mass_of_loose.result ≡ loose_mass c.in_ok-loose.loose.items = c.mass_of_loose.ensures ∙ ap loose_mass c.as_slice-3.ensures.value in
+    let loose : c.mass_of_loose.result ≡ loose_mass (loose_loads a f) = told ∙ ap loose_mass loads in
     let cabin : c.in_ok-cabin.cabin.mass.0 ≡ cabin_mass a.averages f.cabin = ap (λ (l : Load). l.mass.0) c.in_ok-cabin.ensures.load in
     let cabin_at : c.in_ok-cabin.cabin.index.0 ≡ cabin_index a.averages a.zones f.cabin = ap (λ (l : Load). l.index.0) c.in_ok-cabin.ensures.load in
     let traffic : c.in_ok-cabin.cabin.mass.0 + c.mass_of_containers-containers.result + c.mass_of_loose.result ≡ traffic_mass a f = omega arith in

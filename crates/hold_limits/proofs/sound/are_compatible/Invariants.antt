@@ -1,7 +1,0 @@
-use Rattle.std.proofs.Common.{take}
-use Rattle.std.specs.Prelude.{AllPairs}
-use Rattle.hold_limits.specs.Placement.{Exclude}
-use Rattle.hold_limits.proofs.sound.are_compatible.Given as goal
-
-abbrev pub invariant-loop-rank : goal.invariant-loop-rank
-invariant-loop-rank l = AllPairs (λ a b. Exclude l.task.hold a b → ⊥) (take l.rank l.prefix)

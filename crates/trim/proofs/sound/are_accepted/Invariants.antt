@@ -1,7 +1,0 @@
-use Rattle.std.proofs.Common.{◌<◌, ℕ, get_or, zip}
-use Rattle.hold_limits.specs.BranchOrder.{ordered}
-use Rattle.hold_limits.specs.Placement.{IsAccepted, Placed}
-use Rattle.trim.proofs.sound.are_accepted.Given as goal
-
-abbrev pub invariant-loop-rank : goal.invariant-loop-rank
-invariant-loop-rank l = (k : ℕ) → k < l.rank → (d : Placed) → IsAccepted l.hold (get_or (zip (ordered l.items) l.path) k d)

@@ -1,8 +1,0 @@
-use Rattle.std.proofs.Common.{ℕ, ◌<◌, ◌≤◌, get_or}
-use Rattle.hold_parts.specs.declared.parts.Combined.{Combined}
-use Rattle.hold_parts.specs.Limits.{is_listed}
-use Rattle.trim.specs.Stowage.{stowed_load}
-use Rattle.trim.proofs.sound.are_combined_met.Given as goal
-
-abbrev pub invariant-loop-limit : goal.invariant-loop-limit
-invariant-loop-limit l = (k : ℕ) → k < l.limit-index → (d : Combined) → stowed_load (is_listed (get_or l.limits k d).places) l.stowage ≤ (get_or l.limits k d).most.0
