@@ -6,7 +6,7 @@ use Rattle.std.specs.Prelude.{bytes_eq, not, slice_get}
 use Rattle.std.specs.Option.{option_map_or}
 use Rattle.std.proofs.lemmas.Option.{slice_get_within}
 use Rattle.std.proofs.lemmas.List.{length-append}
-use Rattle.std.proofs.lemmas.List.Elements.{All-same, All-push}
+use Rattle.std.proofs.lemmas.List.Elements.{All-push}
 use Rattle.arrayvec.specs.ArrayVec.{ArrayVec}
 use Rattle.hold_parts.specs.declared.parts.Position.{Position}
 use Rattle.hold_limits.specs.Layout.{name_at}
@@ -14,25 +14,15 @@ use Rattle.text_lines.specs.Cuts.{Avoids, IsCutAt}
 use Rattle.text_lines.specs.WordRuns.{run_text, name_text}
 use Rattle.text_lines.specs.Names.{IsNamed}
 use Rattle.text_lines.proofs.CutLemmas.{cut_once}
-use Rattle.text_lines.proofs.WordLemmas.{avoids-append}
-pub use Rattle.text_lines.proofs.NameRuns.{AreClear, AreNames, clear_names, names_are_read, names_begin, names_avoid, line_of-names as path_line-is}
-use Rattle.text_lines.proofs.RunLemmas.{run_text-push, run_again, no_more, run_once}
+pub use Rattle.text_lines.proofs.NameRuns.{AreClear, AreNames, clear_names, names_are_read, names_begin, line_of-names as path_line-is}
+use Rattle.text_lines.proofs.RunLemmas.{run_text-push, run_again, no_more}
 use Rattle.certificate.specs.CertificateText.{path_line, IsSpelledPath}
 
 -- ---- a line of a word and names
 
-pub path_avoids : (word : List ℕ) (ps : List Position) → Avoids 10 word → AreClear 10 ps → (path : List ℕ) → IsSpelledPath ps path → Avoids 10 (path_line word ps path)
-path_avoids word ps plain clear path s =
-    All-same (λ b. eqb b 10 ≡ false) (path_line word ps path) _ (path_line-is word ps path) (avoids-append 10 word _ plain (names_avoid ps path clear s.named))
-
 pub path_words : (word : List ℕ) (ps : List Position) → Avoids 32 word → AreClear 32 ps → (path first words : List ℕ) → Avoids 32 first → IsCutAt 32 words → first ++ words ≡ path_line word ps path → (first ≡ word) × (words ≡ run_text (name_text ps) path)
 path_words word ps plain clear path first words front cut e =
     cut_once 32 first words word (run_text (name_text ps) path) front plain cut (names_begin ps clear path) (e ∙ path_line-is word ps path)
-
-pub path_once : (word : List ℕ) (ps : List Position) → Avoids 32 word → AreClear 32 ps → (a b : List ℕ) → IsSpelledPath ps a → IsSpelledPath ps b → path_line word ps a ≡ path_line word ps b → a ≡ b
-path_once word ps plain clear a b s t e =
-    let parts = path_words word ps plain clear b word (run_text (name_text ps) a) plain (names_begin ps clear a) (sym (path_line-is word ps a) ∙ e) in
-    run_once (name_text ps) (IsNamed ps) (names_are_read ps clear) a b s.named t.named parts.1
 
 -- ---- the reader of names
 

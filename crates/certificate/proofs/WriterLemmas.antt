@@ -20,9 +20,6 @@ use Rattle.certificate.specs.declared.parts.Certificate.{Certificate}
 pub regroup : (old a b : List ℕ) (n m : List ℕ) → n ≡ old ++ a → m ≡ n ++ b → m ≡ old ++ (a ++ b)
 regroup old a b n m first second = second ∙ ap (λ t. t ++ b) first ∙ append_assoc old a b
 
-pub built-3 : (old a b c : List ℕ) (n1 n2 n3 : List ℕ) → n1 ≡ old ++ a → n2 ≡ n1 ++ b → n3 ≡ n2 ++ c → n3 ≡ old ++ ((a ++ b) ++ c)
-built-3 old a b c n1 n2 n3 e1 e2 e3 = regroup old (a ++ b) c n2 n3 (regroup old a b n1 n2 e1 e2) e3
-
 -- ---- the lines of cuts
 
 pub lines_of_paths : (line : List ℕ → List ℕ) (paths : List (ArrayVec ℕ)) → map (λ (path : ArrayVec ℕ). line path.items) paths ≡ map line (paths_of paths)

@@ -2,12 +2,8 @@
 use Rattle.std.specs.Prelude.{ℕ, List}
 use Rattle.hold_parts.specs.declared.parts.Position.{Position}
 use Rattle.text_lines.specs.Sections.{IsOfKind}
-use Rattle.certificate.specs.CertificateText.{claim_line, expanded_line, IsSpelledClaim, IsSpelledNumber}
+use Rattle.certificate.specs.CertificateText.{claim_line, IsSpelledClaim}
 
 -- the line says what is claimed
 abbrev pub IsClaimLine : List Position → List ℕ → Type 0
 IsClaimLine positions = IsOfKind (claim_line positions) (IsSpelledClaim positions)
-
--- the line says how many prefixes are looked at
-abbrev pub IsExpandedLine : List ℕ → Type 0
-IsExpandedLine = IsOfKind expanded_line IsSpelledNumber

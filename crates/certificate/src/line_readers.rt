@@ -6,22 +6,18 @@ ghost use Rattle.text_lines.specs.Lines.{IsStopped};
 ghost use Rattle.text_lines.specs.Sections.{ArePart};
 ghost use Rattle.text_lines.specs.WordRuns.{run_text, name_text};
 ghost use Rattle.certificate.specs.Evidence.{paths_of};
-ghost use Rattle.certificate.specs.CertificateText.{path_line, claim_line, cut_line, expanded_line, IsSpelledPath, IsSpelledClaim, IsSpelledNumber, AreFewCuts};
-ghost use Rattle.certificate.specs.Reading.{IsClaimLine, IsExpandedLine};
+ghost use Rattle.certificate.specs.CertificateText.{path_line, claim_line, cut_line, IsSpelledPath, IsSpelledClaim, AreFewCuts};
+ghost use Rattle.certificate.specs.Reading.{IsClaimLine};
 
 use crate::name_table::NameTable;
 use crate::parts::Claim;
 use base_words::NoMemory;
 use hold_limits::Path;
-use mass_units::read_number;
 use std::alloc::Global;
-use text_lines::{LineFault, Lines, after_prefix, cut};
+use text_lines::{LineFault, Lines, cut};
 
 /// The most cuts that a certificate has.
 const MOST_CUTS: usize = 3_200_000;
-
-/// The most prefixes that are looked at beside the cuts.
-const MOST_EXPANDED: u32 = 50_000;
 
 /// The line of the claim that nothing fits.
 const NOTHING: &[u8] = b"none";
@@ -118,27 +114,4 @@ pub fn next_cuts(
         *lines = after;
     }
     Ok(cuts)
-}
-
-/// The number of a line `expanded NUMBER`.
-fn read_expanded(line: &[u8]) -> Option<u32>
-    ensures found { IfSome result (λ expanded. IsSpelledNumber expanded × (line.now ≡ expanded_line expanded)) }
-    ensures none { IfNone result (IsExpandedLine line.now → ⊥) }
-{
-    let expanded = read_number(after_prefix(b"expanded ", line)?)?;
-    if expanded > MOST_EXPANDED {
-        return None;
-    }
-    Some(expanded)
-}
-
-/// The number of prefixes that are looked at, on the next line.
-pub fn next_expanded(lines: &mut Lines<'_>) -> Result<u32, LineFault>
-    ensures read { IfOk result (λ expanded. IsSpelledNumber expanded
-        × (lines.old.rest.now ≡ expanded_line expanded ++ 10 ∷ lines.new.rest.now)) }
-    ensures counted { OnOk result (lines.new.number ≡ lines.old.number + 1) }
-    ensures refused { IfErr result (IsStopped lines.old.rest.now lines.old.number IsExpandedLine) }
-{
-    let number = lines.number;
-    read_expanded(lines.next_line()?).ok_or(LineFault::Line(number))
 }

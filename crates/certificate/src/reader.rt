@@ -11,15 +11,18 @@ ghost use Rattle.certificate.specs.Refusals.{AreEvidence, IsRefused};
 ghost use Rattle.certificate.specs.declared.parts.Certificate.{Certificate};
 
 use crate::fault::CertFault;
-use crate::line_readers::{next_claim, next_cuts, next_expanded};
+use crate::line_readers::{next_claim, next_cuts};
 use crate::name_table::NameTable;
 use crate::parts::{Certificate, Cuts};
 use hold_limits::{Position, Task};
 use std::alloc::Global;
-use text_lines::{LineFault, Lines, expect_line};
+use text_lines::{Last, LineFault, Lines, NumberWord, expect_last, next_fields};
 
 /// The line with which a certificate begins.
 const START: &[u8] = b"CERTIFICATE 1";
+
+/// The most prefixes that are looked at beside the cuts.
+const MOST_EXPANDED: u32 = 50_000;
 
 /// Reads the certificate that the text spells over the positions of the task's hold. Lines before the first line
 /// `CERTIFICATE 1` are skipped, and nothing follows the certificate.
@@ -87,6 +90,7 @@ fn read_evidence(
 }
 
 /// The same, with the positions by their names.
+#[tactic(auto, using(text_lines::proofs::GrammarLemmas::fails_of_memory))]
 fn read_lines(
     alloc: Global,
     names: &NameTable<'_>,
@@ -99,11 +103,12 @@ fn read_lines(
 {
     let claim = next_claim(names, lines)?;
     let cuts = next_cuts(alloc, names, lines)?;
-    let expanded = next_expanded(lines)?;
-    expect_line(b"END", lines)?;
-    if !lines.rest.is_empty() {
-        return Err(LineFault::Line(lines.number));
-    }
+    let number = NumberWord {
+        least: 0,
+        most: MOST_EXPANDED,
+    };
+    let expanded = next_fields(b"expanded ", &Last(number), lines)?;
+    expect_last(b"END", lines)?;
     Ok(Certificate {
         claim,
         cuts: Cuts::from(cuts),

@@ -9,7 +9,8 @@ use Rattle.std.proofs.lemmas.List.{get_or-take, length-take-le, take-append-drop
 use Rattle.std.proofs.lemmas.List.Elements.{All-nil, All-cons, All-append, All-same, All-from_get_or}
 use Rattle.std.proofs.lemmas.Option.{slice_get-get_or, none-some, cond_some}
 use Rattle.aircraft_file.specs.Spellings.{is_registration, spelled}
-use Rattle.flight_state.specs.Spellings.{is_capital, is_digit, is_capital_or_digit, is_long, without_suffix, is_flight_number, is_flight_name, is_day, is_station}
+use Rattle.base_words.specs.Letters.{is_capital, is_digit, is_capital_or_digit, is_long}
+use Rattle.flight_state.specs.Spellings.{without_suffix, is_flight_number, is_flight_name, is_day, is_station}
 use Rattle.flight_state.specs.Legs.{IsSpelledLeg}
 use Rattle.flight_state.specs.declared.leg.Leg.{Leg}
 use Rattle.text_lines.specs.Cuts.{Avoids}

@@ -1,18 +1,17 @@
 -- each line of a row is read in one way only, and contains no end of a line
-use Rattle.std.proofs.Common.{◌≡◌, ℕ, ◌<◌, eqb, true, false, ◌∷◌, List, [], refl, sym, ◌∙◌, ap, arith, All, codes, lit<}
+use Rattle.std.proofs.Common.{◌≡◌, ℕ, ◌<◌, true, ◌++◌, ◌∷◌, List, refl, sym, ◌∙◌, ap, All, codes, lit<}
 use Rattle.std.specs.Prelude.{bytes_eq, nat_le, if◌then◌else◌}
 use Rattle.std.specs.List.{list_all, AllByRecursion}
-use Rattle.std.proofs.lemmas.Bool.{and_parts, leb-true, ne_eqb}
-use Rattle.std.proofs.lemmas.List.Elements.{All-nil, All-cons, All-weaker, All-from_recursion, recursion_from_All}
-use Rattle.mass_units.specs.Spelling.{number_text, index_text}
-use Rattle.mass_units.proofs.SpellingLemmas.{number_text-avoids, index_text-avoids, number_text-injective, index_text-injective}
+use Rattle.std.proofs.lemmas.List.Elements.{All-weaker, All-from_recursion, recursion_from_All}
+use Rattle.mass_units.specs.Spelling.{number_text}
 use Rattle.hold_parts.specs.Spellings.{IsName}
 use Rattle.hold_parts.specs.declared.parts.Item.{Item}
 use Rattle.payload.specs.declared.figures.ZoneCount.{ZoneCount}
 use Rattle.text_lines.specs.Cuts.{Avoids}
 use Rattle.text_lines.specs.Lines.{line_of}
-use Rattle.text_lines.proofs.WordLemmas.{plain_word}
-use Rattle.text_lines.proofs.SpelledWords.{name_avoids, id_avoids}
+use Rattle.text_lines.specs.SpelledWords.{name_avoids}
+use Rattle.text_lines.proofs.WordLemmas.{plain_word, letters_avoid}
+use Rattle.text_lines.proofs.FieldLemmas.{HasWord, numbers, masses, indices, names, identities, last_field, and_then, behind_word, of_parts, of_spelled}
 use Rattle.text_lines.proofs.Rests.{IsLineKind}
 use Rattle.trim.specs.Limits.{HasFewPassengers}
 use Rattle.trim.specs.declared.figures.Dry.{Dry}
@@ -24,7 +23,7 @@ use Rattle.flight_state.specs.declared.state.Stage.TheVariants.{Working, Planned
 use Rattle.flight_row.specs.declared.row.Version.{Version}
 use Rattle.flight_row.specs.declared.row.Version.TheVariants.{One, Two}
 use Rattle.flight_row.specs.Words.{words_in}
-use Rattle.flight_row.specs.RowText.{version_line, stage_line}
+use Rattle.flight_row.specs.RowText.{version_line, stage_line, edition_line, releases_line, dry_line, fuel_line, limits_line, zone_line, container_line, loose_line}
 use Rattle.flight_row.specs.Spelled.{IsEdition, AreToldReleases, IsSpelledDry, IsSpelledFuel, AreSpelledLimits, IsSpelledContainer, IsSpelledLoad, IsSpelledPlan}
 use Rattle.flight_row.proofs.WordLemmas.{words-line_of, line-avoids}
 
@@ -32,14 +31,6 @@ abbrev Words : Type 0
 Words = List (List ℕ)
 
 -- A keyword and words -----------------------------------------------------------------------------
-
--- a word that is written out in letters: the test computes
-pub letters_avoid : (k : ℕ) (word : List ℕ) → k < 45 → list_all (nat_le 45) word ≡ true → Avoids k word
-letters_avoid k [] low e = All-nil (λ b. eqb b k ≡ false)
-letters_avoid k (c ∷ word) low e =
-    let parts = and_parts (nat_le 45 c) (list_all (nat_le 45) word) e in
-    let high = leb-true 45 c parts.0 in
-    All-cons (λ b. eqb b k ≡ false) c word (ne_eqb c k (λ same. omega arith)) (letters_avoid k word low parts.1)
 
 -- lines of a keyword and of words that say one entry
 pub record AreWords {X : Type 0} (keyword : List ℕ) (words : X → Words) (IsRight : X → Type 0) : Type 0 where
@@ -63,78 +54,49 @@ module _ {X : Type 0} {keyword : List ℕ} {words : X → Words} {P : X → Type
     avoids = λ x s. line-avoids keyword (words x) (clear_words 10 (lit< tt) x s);
   }
 
-pub edition_words : AreWords (codes "edition") (λ (n : ℕ). number_text n ∷ []) IsEdition
-edition_words = record { letters = refl; clear = λ k low n s. (number_text-avoids k n low, tt); once = λ m n e. number_text-injective m n (cc (e)) }
-
-pub releases_words : (stage : Stage) → AreWords (codes "releases") (λ (n : ℕ). number_text n ∷ []) (AreToldReleases stage)
-releases_words stage = record { letters = refl; clear = λ k low n s. (number_text-avoids k n low, tt); once = λ m n e. number_text-injective m n (cc (e)) }
-
-pub dry_words : AreWords (codes "dry") (λ (x : Dry). number_text x.mass.0 ∷ index_text x.index.0 ∷ number_text x.cockpit ∷ number_text x.attendants ∷ []) IsSpelledDry
-dry_words = record {
-  letters = refl;
-  clear = λ k low x s. (number_text-avoids k x.mass.0 low, (index_text-avoids k x.index.0 low, (number_text-avoids k x.cockpit low, (number_text-avoids k x.attendants low, tt))));
-  once = λ x y e i. record {
-    mass = record { 0 = number_text-injective x.mass.0 y.mass.0 (cc (e)) i };
-    index = record { 0 = index_text-injective x.index.0 y.index.0 (cc (e)) i };
-    cockpit = number_text-injective x.cockpit y.cockpit (cc (e)) i;
-    attendants = number_text-injective x.attendants y.attendants (cc (e)) i;
-  };
-}
-
-pub fuel_words : AreWords (codes "fuel") (λ (x : Fuel). number_text x.taxi.0 ∷ number_text x.take_off.0 ∷ number_text x.trip.0 ∷ []) IsSpelledFuel
-fuel_words = record {
-  letters = refl;
-  clear = λ k low x s. (number_text-avoids k x.taxi.0 low, (number_text-avoids k x.take_off.0 low, (number_text-avoids k x.trip.0 low, tt)));
-  once = λ x y e i. record {
-    taxi = record { 0 = number_text-injective x.taxi.0 y.taxi.0 (cc (e)) i };
-    take_off = record { 0 = number_text-injective x.take_off.0 y.take_off.0 (cc (e)) i };
-    trip = record { 0 = number_text-injective x.trip.0 y.trip.0 (cc (e)) i };
-  };
-}
-
-pub limits_words : AreWords (codes "limits") (λ (x : Regulated). number_text x.take_off.0 ∷ number_text x.landing.0 ∷ []) AreSpelledLimits
-limits_words = record {
-  letters = refl;
-  clear = λ k low x s. (number_text-avoids k x.take_off.0 low, (number_text-avoids k x.landing.0 low, tt));
-  once = λ x y e i. record {
-    take_off = record { 0 = number_text-injective x.take_off.0 y.take_off.0 (cc (e)) i };
-    landing = record { 0 = number_text-injective x.landing.0 y.landing.0 (cc (e)) i };
-  };
-}
-
-pub zone_words : AreWords (codes "zone") (λ (x : ZoneCount). number_text x.adults ∷ number_text x.children ∷ number_text x.infants ∷ []) HasFewPassengers
-zone_words = record {
-  letters = refl;
-  clear = λ k low x s. (number_text-avoids k x.adults low, (number_text-avoids k x.children low, (number_text-avoids k x.infants low, tt)));
-  once = λ x y e i. record {
-    adults = number_text-injective x.adults y.adults (cc (e)) i;
-    children = number_text-injective x.children y.children (cc (e)) i;
-    infants = number_text-injective x.infants y.infants (cc (e)) i;
-  };
-}
-
-pub container_words : AreWords (codes "container") (λ (x : Item). x.id ∷ number_text x.mass.0 ∷ []) IsSpelledContainer
-container_words = record {
-  letters = refl;
-  clear = λ k low x s. (id_avoids k x.id low s.id, (number_text-avoids k x.mass.0 low, tt));
-  once = λ x y e. let id : x.id ≡ y.id = cc (e) in λ i. record { id = id i; mass = record { 0 = number_text-injective x.mass.0 y.mass.0 (cc (e)) i } };
-}
-
-pub load_words : AreWords (codes "loose") (λ (x : LooseFigure). x.position ∷ number_text x.mass.0 ∷ number_text x.pieces ∷ []) IsSpelledLoad
-load_words = record {
-  letters = refl;
-  clear = λ k low x s. (name_avoids k x.position low s.name, (number_text-avoids k x.mass.0 low, (number_text-avoids k x.pieces low, tt)));
-  once = λ x y e.
-      let name : x.position ≡ y.position = cc (e) in
-      λ i. record { position = name i; mass = record { 0 = number_text-injective x.mass.0 y.mass.0 (cc (e)) i }; pieces = number_text-injective x.pieces y.pieces (cc (e)) i };
-}
-
 pub plan_words : AreWords (codes "plan") (λ (names : Words). names) IsSpelledPlan
 plan_words = record {
   letters = refl;
   clear = λ k low names s. recursion_from_All (Avoids k) names (All-weaker IsName (Avoids k) (λ name named. name_avoids k name low named) names s.each);
   once = λ x y e. e;
 }
+
+-- A keyword and fields ----------------------------------------------------------------------------
+
+pub editions : IsLineKind edition_line IsEdition
+editions = of_spelled (behind_word (codes "edition ") refl (last_field numbers)) (λ n s. tt)
+
+pub releases : (stage : Stage) → IsLineKind releases_line (AreToldReleases stage)
+releases stage = of_spelled (behind_word (codes "releases ") refl (last_field numbers)) (λ n s. tt)
+
+pub dry : IsLineKind dry_line IsSpelledDry
+dry = of_parts (behind_word (codes "dry ") refl (and_then masses (and_then indices (and_then numbers (last_field numbers)))))
+    (λ (x : Dry). (x.mass, (x.index, (x.cockpit, x.attendants))))
+    (λ x y e i. record { mass = (e i).0; index = (e i).1.0; cockpit = (e i).1.1.0; attendants = (e i).1.1.1 }) (λ x s. (tt, (tt, (tt, tt))))
+
+-- three masses, whatever they are
+pub three_masses : IsLineKind (λ (m : ℕ × (ℕ × ℕ)). codes "fuel " ++ (number_text m.0 ++ 32 ∷ (number_text m.1.0 ++ 32 ∷ number_text m.1.1))) (λ (m : ℕ × (ℕ × ℕ)). HasWord m.0 × (HasWord m.1.0 × HasWord m.1.1))
+three_masses = behind_word (codes "fuel ") refl (and_then numbers (and_then numbers (last_field numbers)))
+
+pub fuel : IsLineKind fuel_line IsSpelledFuel
+fuel = of_parts three_masses (λ (x : Fuel). (x.taxi.0, (x.take_off.0, x.trip.0)))
+    (λ x y e i. record { taxi = record { 0 = (e i).0 }; take_off = record { 0 = (e i).1.0 }; trip = record { 0 = (e i).1.1 } }) (λ x s. (tt, (tt, tt)))
+
+pub limits : IsLineKind limits_line AreSpelledLimits
+limits = of_parts (behind_word (codes "limits ") refl (and_then masses (last_field masses)))
+    (λ (x : Regulated). (x.take_off, x.landing)) (λ x y e i. record { take_off = (e i).0; landing = (e i).1 }) (λ x s. (tt, tt))
+
+pub zones : IsLineKind zone_line HasFewPassengers
+zones = of_parts (behind_word (codes "zone ") refl (and_then numbers (and_then numbers (last_field numbers))))
+    (λ (x : ZoneCount). (x.adults, (x.children, x.infants))) (λ x y e i. record { adults = (e i).0; children = (e i).1.0; infants = (e i).1.1 }) (λ x s. (tt, (tt, tt)))
+
+pub containers : IsLineKind container_line IsSpelledContainer
+containers = of_parts (behind_word (codes "container ") refl (and_then identities (last_field masses)))
+    (λ (x : Item). (x.id, x.mass)) (λ x y e i. record { id = (e i).0; mass = (e i).1 }) (λ x s. (s.id, tt))
+
+pub loads : IsLineKind loose_line IsSpelledLoad
+loads = of_parts (behind_word (codes "loose ") refl (and_then names (and_then masses (last_field numbers))))
+    (λ (x : LooseFigure). (x.position, (x.mass, x.pieces))) (λ x y e i. record { position = (e i).0; mass = (e i).1.0; pieces = (e i).1.1 }) (λ x s. (s.name, (tt, tt)))
 
 -- The first line, and the line of the stage -------------------------------------------------------
 

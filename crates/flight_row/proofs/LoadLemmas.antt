@@ -1,6 +1,6 @@
 -- the flight that a row stands for
 use Rattle.std.proofs.Common.{◌≡◌, ℕ, ◌-◌, ◌≤◌, ◌<◌, Bool, true, ◌&&◌, ◌∷◌, List, [], length, map, set, replicate, refl, sym, ◌∙◌, ap, subst, arith, All, Option, Some, None}
-use Rattle.std.specs.Prelude.{IfSome, nat_le, find, position, bytes_eq, unwrap_or, option_map}
+use Rattle.std.specs.Prelude.{IfSome, nat_le, find, bytes_eq, unwrap_or, option_map}
 use Rattle.std.proofs.lemmas.Bool.{and_parts, leb-true, cond_both}
 use Rattle.std.proofs.lemmas.Option.{same_Some, none-some, cond_some}
 use Rattle.std.proofs.lemmas.List.{length-set, length-append, length-replicate}
@@ -13,7 +13,6 @@ use Rattle.aircraft_file.specs.Craft.{Craft}
 use Rattle.payload.specs.declared.figures.ZoneCount.{ZoneCount}
 use Rattle.trim.specs.declared.figures.LooseFigure.{LooseFigure}
 use Rattle.trim.specs.declared.figures.Figures.{Figures}
-use Rattle.trim.specs.Limits as figures
 use Rattle.flight_state.specs.Effective.{KeepsLimits, effective, with_change, with_changes, can_add, can_add_all, put_load, place_at, changed_load, load_at, nothing_at, is_at, nobody, up_to_zone, changed_count, count_in, stays_within}
 use Rattle.flight_state.specs.declared.change.Lmc.{Lmc}
 use Rattle.flight_state.specs.declared.change.Lmc.TheVariants.{Cabin, Loose}

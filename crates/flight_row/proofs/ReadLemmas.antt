@@ -10,7 +10,7 @@ use Rattle.text_lines.specs.declared.lines.Lines.{Lines as Point}
 use Rattle.text_lines.specs.declared.fault.LineFault.{LineFault}
 use Rattle.text_lines.specs.declared.fault.LineFault.TheVariants.{NoMemory}
 use Rattle.text_lines.proofs.PartSteps.{PartBetween}
-use Rattle.text_lines.proofs.Rests.{Rest, behind, Leads, then, StartsWithOne, past_one}
+use Rattle.text_lines.proofs.Rests.{Rest, Leads, then}
 use Rattle.text_lines.proofs.RunsOfLines.{past_run}
 use Rattle.trim.specs.declared.figures.Figures.{Figures}
 use Rattle.flight_state.specs.declared.change.Lmc.{Lmc}
@@ -28,11 +28,6 @@ abbrev Lines : Type 0
 Lines = List (List ℕ)
 
 -- Steps -------------------------------------------------------------------------------------------
-
--- past a line that was read
-pub past_said : {X : Type 0} {rest : Rest Said} {line : X → List ℕ} {P : X → Type 0} {part : Said → X} {later : Said → Lines} → StartsWithOne rest line P part later → (here there : Point) (said : X)
-    → P said × (here.rest.now ≡ line said ++ 10 ∷ there.rest.now) → there.number ≡ here.number + 1 → Leads rest here (behind rest part said later) there
-past_said starts here there said read counted = past_one starts (record { right = read.0; read = read.1; counted = counted })
 
 pub has_read : {from to : Rest Said} {here there : Point} → Leads from here to there → HasRead from.Is to.Is from.lines to.lines here.rest.now there.rest.now here.number there.number
 has_read leads = record { fails = leads.fails; read = leads.read }

@@ -3,7 +3,7 @@ use Rattle.std.proofs.Common.{◌≡◌, ◌≢◌, ⊎_elim, ◌⊎◌, ℕ, �
 use Rattle.std.specs.Prelude.{option_to_list, unwrap_or, IsSome}
 use Rattle.std.proofs.lemmas.Bool.{false≢true}
 use Rattle.std.proofs.lemmas.List.{append_assoc}
-use Rattle.std.proofs.lemmas.List.Elements.{All-nil, All-cons, All-append}
+use Rattle.std.proofs.lemmas.List.Elements.{All-nil, All-cons}
 use Rattle.hold_parts.specs.declared.parts.Item.{Item}
 use Rattle.payload.specs.declared.figures.ZoneCount.{ZoneCount}
 use Rattle.text_lines.specs.Cuts.{Avoids}
@@ -17,9 +17,9 @@ use Rattle.text_lines.specs.declared.fault.LineFault.TheVariants.{NoMemory}
 use Rattle.text_lines.proofs.WordLemmas.{plain_word}
 use Rattle.text_lines.proofs.TextCuts.{AreLines}
 use Rattle.text_lines.proofs.PartSteps.{front_few}
-use Rattle.text_lines.proofs.Rests.{Rest, FailsAt, behind, Leads, past, HasOther, other_first, other_behind, StartsWithOne, fails_at_one}
+use Rattle.text_lines.proofs.Rests.{Rest, FailsAt, behind, Leads, HasOther, other_first, other_behind, StartsWithBlock, past_block, StartsWithOne, fails_at_one}
 use Rattle.text_lines.proofs.RunsOfLines.{StartsWithRun, IsLast}
-use Rattle.text_lines.proofs.OneReading.{IsReadOnce, one_then, run_then, last_then}
+use Rattle.text_lines.proofs.OneReading.{IsReadOnce, block_then, one_then, run_then, last_then}
 use Rattle.text_lines.proofs.OneAnswer.{one_said, no_fault}
 use Rattle.trim.specs.Limits.{HasFewPassengers}
 use Rattle.trim.specs.declared.figures.Dry.{Dry}
@@ -41,7 +41,8 @@ use Rattle.flight_row.specs.RowText.{version_line, leg_line, edition_line, stage
 use Rattle.flight_row.specs.Spelled.{IsEdition, IsSpelledDry, IsSpelledFuel, AreSpelledLimits, IsSpelledContainer, IsSpelledLoad, IsSpelledPlan, IsSpelledChange, AreSpelledChanges, AreSpelledFigures, AreReleases, AreToldReleases, first_releases, HasPlanFor, IsSpelled, Spells}
 use Rattle.flight_row.specs.Reading.{Said, changes_part, plan_part, loads_part, containers_part, zones_part, limits_part, fuel_part, dry_part, releases_part, stage_part, edition_part, leg_part, KnowsHead, KnowsFigures, IsSpelledHead, SaysReleases, IsPlanFor, NeedsPlan, most_plans, row_with}
 use Rattle.flight_row.specs.Refusals.{AreRow}
-use Rattle.flight_row.proofs.LineLemmas.{line_kind, edition_words, releases_words, dry_words, fuel_words, limits_words, zone_words, container_words, load_words, plan_words, versions, stages}
+use Rattle.flight_row.proofs.LineLemmas as kind
+use Rattle.flight_row.proofs.LineLemmas.{line_kind, plan_words, versions, stages}
 use Rattle.flight_row.proofs.LegLemmas.{leg_words}
 use Rattle.flight_row.proofs.ChangeLineLemmas.{changes as change_lines}
 use Rattle.flight_row.proofs.StageLemmas.{told-releases}
@@ -162,15 +163,15 @@ starts_with_leg version = record { kind = line_kind leg_words; right = λ said s
 -- how often the flight was released is read in one way only
 told_once : (v : Version) (stage : Stage) (m n : ℕ) (lines other : Lines) → AreReleases v stage m → AreReleases v stage n → releases_lines v m ++ lines ≡ releases_lines v n ++ other → (m ≡ n) × (lines ≡ other)
 told_once One stage m n lines other p q e = (p ∙ sym q, e)
-told_once Two stage m n lines other p q e = let heads : releases_line m ≡ releases_line n = cc (e) in ((line_kind (releases_words stage)).once m n p q heads, cc (e))
+told_once Two stage m n lines other p q e = let heads : releases_line m ≡ releases_line n = cc (e) in ((kind.releases stage).once m n p q heads, cc (e))
 
 told_are : (v : Version) (stage : Stage) (releases : ℕ) → AreReleases v stage releases → AreLines (releases_lines v releases)
 told_are One stage releases p = All-nil (Avoids 10)
-told_are Two stage releases p = All-cons (Avoids 10) (releases_line releases) [] ((line_kind (releases_words stage)).avoids releases p) (All-nil (Avoids 10))
+told_are Two stage releases p = All-cons (Avoids 10) (releases_line releases) [] ((kind.releases stage).avoids releases p) (All-nil (Avoids 10))
 
 module _ (version : Version) (head : Head) where
   pub starts_with_edition : StartsWithOne (from_edition version head) edition_line IsEdition (λ said. said.1.edition) stage_part
-  starts_with_edition = record { kind = line_kind edition_words; right = λ said s. s.0.0.edition; are = λ said s. refl }
+  starts_with_edition = record { kind = kind.editions; right = λ said s. s.0.0.edition; are = λ said s. refl }
 
   pub starts_with_stage : StartsWithOne (from_stage version head) stage_line (λ (stage : Stage). Unit {0}) (λ said. said.1.stage) releases_part
   starts_with_stage = record { kind = stages; right = λ said s. tt; are = λ said s. refl }
@@ -178,49 +179,41 @@ module _ (version : Version) (head : Head) where
   releases_in : (said : Said) → (from_releases version head).Is said → AreReleases version head.stage said.1.releases
   releases_in said s = subst (λ (v : Version). AreReleases v head.stage said.1.releases) s.0.0.0.1 (subst (λ (stage : Stage). AreReleases said.0 stage said.1.releases) s.1 s.0.0.0.0.releases)
 
+  starts_with_told : StartsWithBlock (from_releases version head) (releases_lines version) (AreReleases version head.stage) (λ said. said.1.releases) dry_part
+  starts_with_told = record {
+    once = told_once version head.stage;
+    clear = told_are version head.stage;
+    right = releases_in;
+    are = λ said s. ap (λ (v : Version). releases_lines v said.1.releases ++ dry_part said) s.0.0.0.1;
+  }
+
   pub past_releases : (here there : Point) → SaysReleases version head.stage here.rest.now there.rest.now here.number there.number head.releases → Leads (from_releases version head) here (from_dry version head) there
-  past_releases here there says =
-      past (from_releases version head) (from_dry version head) here there (releases_lines version head.releases) says.read says.counted
-      (λ said s. (s.0, λ i. releases_lines (s.0.0.0.0.1 i) (s.1 i) ++ dry_part said))
-      (λ said more first s e.
-      let same = told_once version head.stage said.1.releases head.releases (dry_part said) more (releases_in said s) says.right (ap (λ (v : Version). releases_lines v said.1.releases ++ dry_part said) (sym s.0.0.0.1) ∙ e) in
-      ((s, same.0), sym same.1))
+  past_releases here there says = past_block starts_with_told here there head.releases says.right says.read says.counted
 
   -- in the second version, where the line that tells them is still to come
   pub starts_with_releases : version ≡ Two → StartsWithOne (from_releases version head) releases_line (AreToldReleases head.stage) (λ said. said.1.releases) dry_part
   starts_with_releases two = record {
-    kind = line_kind (releases_words head.stage);
+    kind = kind.releases head.stage;
     right = λ said s. subst (λ (v : Version). AreReleases v head.stage said.1.releases) two (releases_in said s);
     are = λ said s. ap (λ (v : Version). releases_lines v said.1.releases ++ dry_part said) (s.0.0.0.1 ∙ two);
   }
-
-releases_then : (version : Version) (head : Head) → ((releases : ℕ) → IsReadOnce (behind (from_releases version head) (λ said. said.1.releases) releases dry_part)) → IsReadOnce (from_releases version head)
-releases_then version head read = record {
-  once = λ v w more p q e.
-      let told : Said → ℕ → Lines → Lines = λ said n lines. releases_lines said.0 n ++ lines in
-      let whole : told v v.1.releases (dry_part v ++ more) ≡ told w w.1.releases (dry_part w) = sym (append_assoc (releases_lines v.0 v.1.releases) (dry_part v) more) ∙ e in
-      let of_version = ap (λ (u : Version). releases_lines u v.1.releases ++ (dry_part v ++ more)) (sym p.0.0.0.1) ∙ whole ∙ ap (λ (u : Version). releases_lines u w.1.releases ++ dry_part w) q.0.0.0.1 in
-      let same = told_once version head.stage v.1.releases w.1.releases (dry_part v ++ more) (dry_part w) (releases_in version head v p) (releases_in version head w q) of_version in
-      (read w.1.releases).once v w more (p, same.0) (q, refl) same.1;
-  clear = λ v p. All-append (Avoids 10) (releases_lines v.0 v.1.releases) (dry_part v) (told_are v.0 head.stage v.1.releases (subst (λ (u : Version). AreReleases u head.stage v.1.releases) (sym p.0.0.0.1) (releases_in version head v p))) ((read v.1.releases).clear v (p, refl));
-}
 
 -- The figures -------------------------------------------------------------------------------------
 
 module _ (version : Version) (head : Head) where
   pub starts_with_dry : StartsWithOne (from_dry version head) dry_line IsSpelledDry (λ said. said.1.base.dry) fuel_part
-  starts_with_dry = record { kind = line_kind dry_words; right = λ said s. s.0.0.0.0.0.base.dry; are = λ said s. refl }
+  starts_with_dry = record { kind = kind.dry; right = λ said s. s.0.0.0.0.0.base.dry; are = λ said s. refl }
 
   module _ (base : Figures) where
     pub starts_with_fuel : StartsWithOne (from_fuel version head base) fuel_line IsSpelledFuel (λ said. said.1.base.fuel) limits_part
-    starts_with_fuel = record { kind = line_kind fuel_words; right = λ said s. s.0.0.0.0.0.0.base.fuel; are = λ said s. refl }
+    starts_with_fuel = record { kind = kind.fuel; right = λ said s. s.0.0.0.0.0.0.base.fuel; are = λ said s. refl }
 
     pub starts_with_limits : StartsWithOne (from_limits version head base) limits_line AreSpelledLimits (λ said. said.1.base.regulated) zones_part
-    starts_with_limits = record { kind = line_kind limits_words; right = λ said s. s.0.0.0.0.0.0.0.base.limits; are = λ said s. refl }
+    starts_with_limits = record { kind = kind.limits; right = λ said s. s.0.0.0.0.0.0.0.base.limits; are = λ said s. refl }
 
     pub starts_with_zones : StartsWithRun (from_zones version head base) zone_line HasFewPassengers (λ zones. length zones ≤ 16) (λ said. said.1.base.cabin) containers_part
     starts_with_zones = record {
-      kind = line_kind zone_words;
+      kind = kind.zones;
       front = front_few 16;
       right = λ said s. s.0.0.0.0.0.0.0.0.base.passengers;
       allowed = λ said s. s.0.0.0.0.0.0.0.0.base.zones;
@@ -230,7 +223,7 @@ module _ (version : Version) (head : Head) where
 
     pub starts_with_containers : StartsWithRun (from_containers version head base) container_line IsSpelledContainer (λ items. length items ≤ 64) (λ said. said.1.base.containers) loads_part
     starts_with_containers = record {
-      kind = line_kind container_words;
+      kind = kind.containers;
       front = front_few 64;
       right = λ said s. s.0.0.0.0.0.0.0.0.0.base.containers;
       allowed = λ said s. s.0.0.0.0.0.0.0.0.0.base.few_containers;
@@ -240,7 +233,7 @@ module _ (version : Version) (head : Head) where
 
     pub starts_with_loads : StartsWithRun (from_loads version head base) loose_line IsSpelledLoad (λ loads. length loads ≤ 64) (λ said. said.1.base.loose) plan_part
     starts_with_loads = record {
-      kind = line_kind load_words;
+      kind = kind.loads;
       front = front_few 64;
       right = λ said s. s.0.0.0.0.0.0.0.0.0.0.base.loads;
       allowed = λ said s. s.0.0.0.0.0.0.0.0.0.0.base.few_loads;
@@ -490,7 +483,7 @@ is_read_once =
     one_then (starts_with_leg version) (λ leg.
     one_then (starts_with_edition version (head_with leg 0 Working)) (λ edition.
     one_then (starts_with_stage version (head_with leg edition Working)) (λ stage.
-    releases_then version (head_with leg edition stage) (λ releases. figures_then version (record { leg = leg; edition = edition; stage = stage; releases = releases }))))))
+    block_then (starts_with_told version (head_with leg edition stage)) (λ releases. figures_then version (record { leg = leg; edition = edition; stage = stage; releases = releases }))))))
 
 pub spelled_once : (v w : Version) (text : List ℕ) (r q : Row) → Spells v text r → Spells w text q → r ≡ q
 spelled_once v w text r q s t = ap (λ (said : Said). said.1) (one_said rows is_read_once text (v, r) (w, q) s.spelled t.spelled s.is t.is)

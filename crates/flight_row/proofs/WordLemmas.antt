@@ -1,8 +1,6 @@
 -- lines and their words
-use Rattle.std.proofs.Common.{◌≡◌, ◌≢◌, ℕ, Bool, true, false, ◌∷◌, ◌++◌, List, [], length, refl, sym, ◌∙◌, ap, arith, All, eqb, IsTrue, Option, Some, None, IfNone}
-use Rattle.std.specs.Prelude.{bytes_eq}
+use Rattle.std.proofs.Common.{◌≡◌, ◌≢◌, ℕ, Bool, true, false, ◌∷◌, ◌++◌, List, [], length, refl, sym, ◌∙◌, ap, arith, All, eqb, IsTrue}
 use Rattle.std.proofs.lemmas.Bool.{false≢true}
-use Rattle.std.proofs.lemmas.Slice.Eq.{bytes_eq-Decides}
 use Rattle.std.proofs.lemmas.List.Elements.{All-head, All-tail, All-append, All-cons}
 use Rattle.std.proofs.lemmas.List.Splits.{slice_split_none, slice_split_at, length-slice_split, join_with_byte-slice_split}
 use Rattle.text_lines.specs.Cuts.{Avoids}
@@ -55,13 +53,3 @@ next_is {w} {v} {old} {new} {ws} e g =
 
 pub no_word : {v : List ℕ} {old ws : List (List ℕ)} → old ≡ [] → old ≡ v ∷ ws → ⊥
 no_word {v} {old} {ws} none e = absurd (cc (none, e))
-
-pub word_is : {w v : List ℕ} {old new ws : List (List ℕ)} → old ≡ w ∷ new → w ≡ v → new ≡ ws → old ≡ v ∷ ws
-word_is e same rest = e ∙ (λ i. same i ∷ rest i)
-
-pub none_then : {X P Q : Type 0} (r : Option X) → (P → Q) → IfNone r P → IfNone r Q
-none_then None f none = f none
-none_then (Some x) f none = tt
-
-pub same_text : (a b : List ℕ) (equal : Bool) → equal ≡ true → equal ≡ bytes_eq a b → a ≡ b
-same_text a b equal holds is = (bytes_eq-Decides a b).0 (sym is ∙ holds)

@@ -1,5 +1,5 @@
 -- a row that was written is read back
-use Rattle.std.proofs.Common.{◌≡◌, ⊎_elim, ℕ, ◌+◌, ◌-◌, ◌≤◌, ◌<◌, Bool, true, false, ◌&&◌, ℤ, pos, ◌+ℤ◌, unsigned_abs, ◌∷◌, List, [], length, map, get_or, sym, ◌∙◌, ap, subst, arith, All, Option, Some, None}
+use Rattle.std.proofs.Common.{◌≡◌, ⊎_elim, ℕ, ◌-◌, ◌≤◌, ◌<◌, Bool, true, false, ◌&&◌, ℤ, pos, ◌+ℤ◌, unsigned_abs, ◌∷◌, List, [], length, map, get_or, sym, ◌∙◌, ap, subst, arith, All, Option, Some, None}
 use Rattle.std.specs.Prelude.{IfSome, nat_le, int_le, find, unwrap_or, bytes_eq, option_map}
 use Rattle.std.proofs.lemmas.Bool.{and_parts, leb-true, cases_lt, cases_Bool, cond-true, cond-false}
 use Rattle.hold_limits.proofs.EnumerationLemmas.{int_le-Decides}

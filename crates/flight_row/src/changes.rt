@@ -35,7 +35,7 @@ fn read_made(alloc: Global, base: &Figures, lines: &mut Lines<'_>) -> Result<Lmc
     ensures { IfOk result (ArePart change_line IsSpelledChange (AreSpelledChanges base.now Released)
         lines.old.rest.now lines.new.rest.now lines.old.number lines.new.number) }
 {
-    let mut figures = base.copy(alloc)?;
+    let mut figures = base.clone()?;
     let mut changes = Lmcs::new(alloc);
     while !changes.is_full() {
         let Some((line, after)) = lines.split_first() else {

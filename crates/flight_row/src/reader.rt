@@ -31,7 +31,7 @@ use base_words::NoMemory;
 use flight_state::{FlightState, Leg, Lmcs, Stage};
 use payload::Cabin;
 use std::alloc::Global;
-use text_lines::{LineFault, Lines, expect_line, next_said, read_up_to};
+use text_lines::{LineFault, Lines, expect_last, next_said, read_up_to};
 use trim::{Figures, Items, LooseList};
 
 /// The most zones, containers and loose loads of a flight.
@@ -178,10 +178,7 @@ fn read_rest(
 {
     let plan = read_plan_for(alloc, head.stage, lines)?;
     let lmcs = read_changes(alloc, base, head.stage, lines)?;
-    expect_line(b"END", lines)?;
-    if !lines.rest.is_empty() {
-        return Err(LineFault::Line(lines.number));
-    }
+    expect_last(b"END", lines)?;
     Ok((plan, lmcs))
 }
 

@@ -1,6 +1,6 @@
 //! Lines of a row, appended to a text.
 
-ghost use Rattle.std.specs.Prelude.{◌≡◌, ◌≤◌, ℕ, [], ◌∷◌, ◌++◌, true, length, map, All, OnOk, IfSome};
+ghost use Rattle.std.specs.Prelude.{◌≡◌, ◌≤◌, ℕ, [], ◌∷◌, ◌++◌, true, length, All, OnOk, IfSome};
 ghost use Rattle.arrayvec.specs.ArrayVec.{ArrayVec};
 ghost use Rattle.aircraft_file.specs.Spellings.{is_registration};
 ghost use Rattle.flight_state.specs.Legs.{IsSpelledLeg};
@@ -8,11 +8,9 @@ ghost use Rattle.mass_units.specs.Spelling.{number_text, signed_text, index_text
 ghost use Rattle.hold_parts.specs.Spellings.{IsName, IsUldId};
 ghost use Rattle.hold_parts.specs.declared.parts.Item.{Item};
 ghost use Rattle.text_lines.specs.Lines.{text_of};
-ghost use Rattle.text_lines.specs.WordRuns.{run_text, name_text};
 ghost use Rattle.trim.specs.declared.figures.LooseFigure.{LooseFigure};
 ghost use Rattle.flight_row.specs.Loading.{plan_names};
-ghost use Rattle.flight_row.specs.Spelled.{IsNamedChange};
-ghost use Rattle.flight_row.specs.RowText.{version_line, leg_line, edition_line, stage_word, stage_line, releases_line, dry_line, fuel_line, limits_line, zone_line, container_line, loose_line, plan_lines, change_line, figure_lines};
+ghost use Rattle.flight_row.specs.RowText.{version_line, leg_line, edition_line, stage_word, stage_line, releases_line, dry_line, fuel_line, limits_line, plan_lines, figure_lines};
 ghost use Rattle.flight_row.specs.declared.row.Version.TheVariants.{Two};
 
 use base_words::NoMemory;
@@ -21,6 +19,7 @@ use hold_limits::{Hold, Item};
 use mass_units::{Kg, Ticks};
 use payload::ZoneCount;
 use telex::Builder;
+use text_lines::{EntryWriter, NamesOf, write_lines, write_run};
 use trim::{Dry, Figures, Fuel, LooseFigure, Regulated};
 
 /// Appends a number after a space.
@@ -140,64 +139,72 @@ fn push_limits(text: &mut Builder, limits: &Regulated) -> Result<(), NoMemory>
     text.end_line()
 }
 
-fn push_zone(text: &mut Builder, count: &ZoneCount) -> Result<(), NoMemory>
-    ensures { OnOk result (text.new ≡ text.old ++ (zone_line count.now ++ 10 ∷ [])) }
-{
-    text.text(b"zone")?;
-    push_number(text, u32::from(count.adults))?;
-    push_number(text, u32::from(count.children))?;
-    push_number(text, u32::from(count.infants))?;
-    text.end_line()
-}
+/// Counts of the passengers of zones.
+#[derive(Clone, Copy)]
+struct Zones;
 
-fn push_container(text: &mut Builder, item: &Item) -> Result<(), NoMemory>
-    ensures line { OnOk result (text.new ≡ text.old ++ (container_line item.now ++ 10 ∷ [])) }
-    ensures identified { OnOk result (IsUldId item.now.id) }
-{
-    text.text(b"container")?;
-    text.word(item.id.bytes())?;
-    push_mass(text, item.mass)?;
-    text.end_line()
-}
+/// Containers.
+#[derive(Clone, Copy)]
+struct Containers;
 
-fn push_load(text: &mut Builder, load: &LooseFigure) -> Result<(), NoMemory>
-    ensures line { OnOk result (text.new ≡ text.old ++ (loose_line load.now ++ 10 ∷ [])) }
-    ensures named { OnOk result (IsName load.now.position) }
-{
-    text.text(b"loose")?;
-    text.word(load.position.bytes())?;
-    push_mass(text, load.mass)?;
-    push_number(text, u32::from(load.pieces))?;
-    text.end_line()
-}
+/// Loose loads.
+#[derive(Clone, Copy)]
+struct Loads;
 
-fn push_zones(text: &mut Builder, counts: &[ZoneCount]) -> Result<(), NoMemory>
-    ensures { OnOk result (text.new ≡ text.old ++ text_of (map zone_line counts.now)) }
-{
-    for count in counts {
-        push_zone(text, count)?;
+/// Late changes.
+#[derive(Clone, Copy)]
+pub struct Changes;
+
+impl EntryWriter for Zones {
+    ghost use Rattle.flight_row.specs.RowText.{zone_line};
+
+    type Entry = ZoneCount;
+
+    ghost text = { λ _. zone_line };
+
+    ghost spelled = { λ _ _. Unit {0} };
+
+    fn write(&self, count: &ZoneCount, text: &mut Builder) -> Result<(), NoMemory> {
+        text.text(b"zone")?;
+        push_number(text, u32::from(count.adults))?;
+        push_number(text, u32::from(count.children))?;
+        push_number(text, u32::from(count.infants))
     }
-    Ok(())
 }
 
-fn push_containers(text: &mut Builder, items: &[Item]) -> Result<(), NoMemory>
-    ensures lines { OnOk result (text.new ≡ text.old ++ text_of (map container_line items.now)) }
-    ensures identified { OnOk result (All (λ (item : Item). IsUldId item.id) items.now) }
-{
-    for item in items {
-        push_container(text, item)?;
+impl EntryWriter for Containers {
+    ghost use Rattle.hold_parts.specs.Spellings.{IsUldId};
+    ghost use Rattle.flight_row.specs.RowText.{container_line};
+
+    type Entry = Item;
+
+    ghost text = { λ _. container_line };
+
+    ghost spelled = { λ _ item. IsUldId item.id };
+
+    fn write(&self, item: &Item, text: &mut Builder) -> Result<(), NoMemory> {
+        text.text(b"container")?;
+        text.word(item.id.bytes())?;
+        push_mass(text, item.mass)
     }
-    Ok(())
 }
 
-fn push_loads(text: &mut Builder, loads: &[LooseFigure]) -> Result<(), NoMemory>
-    ensures lines { OnOk result (text.new ≡ text.old ++ text_of (map loose_line loads.now)) }
-    ensures named { OnOk result (All (λ (load : LooseFigure). IsName load.position) loads.now) }
-{
-    for load in loads {
-        push_load(text, load)?;
+impl EntryWriter for Loads {
+    ghost use Rattle.hold_parts.specs.Spellings.{IsName};
+    ghost use Rattle.flight_row.specs.RowText.{loose_line};
+
+    type Entry = LooseFigure;
+
+    ghost text = { λ _. loose_line };
+
+    ghost spelled = { λ _ load. IsName load.position };
+
+    fn write(&self, load: &LooseFigure, text: &mut Builder) -> Result<(), NoMemory> {
+        text.text(b"loose")?;
+        text.word(load.position.bytes())?;
+        push_mass(text, load.mass)?;
+        push_number(text, u32::from(load.pieces))
     }
-    Ok(())
 }
 
 /// Appends the lines of the figures before the late changes.
@@ -209,17 +216,9 @@ pub fn push_base(text: &mut Builder, base: &Figures) -> Result<(), NoMemory>
     push_dry(text, &base.dry)?;
     push_fuel(text, &base.fuel)?;
     push_limits(text, &base.regulated)?;
-    push_zones(text, base.cabin.counts())?;
-    push_containers(text, base.containers.as_slice())?;
-    push_loads(text, base.loose.as_slice())
-}
-
-fn push_names(text: &mut Builder, hold: &Hold, numbers: &[u8]) -> Result<(), NoMemory>
-    ensures { OnOk result (text.new ≡ text.old ++ run_text (name_text hold.now.positions) numbers.now) }
-{
-    for number in numbers {
-        text.word(hold.name_at(*number))?;
-    }
+    write_lines(&Zones, base.cabin.as_slice(), text)?;
+    write_lines(&Containers, base.containers.as_slice(), text)?;
+    write_lines(&Loads, base.loose.as_slice(), text)?;
     Ok(())
 }
 
@@ -232,11 +231,11 @@ pub fn push_plan(text: &mut Builder, hold: &Hold, s: &FlightState) -> Result<(),
         return Ok(());
     };
     text.text(b"plan")?;
-    push_names(text, hold, path.as_slice())?;
+    write_run(&NamesOf(hold), path.as_slice(), text)?;
     text.end_line()
 }
 
-/// Appends a zone and by how many passengers of each kind it differs, each number after a space, and ends the line.
+/// Appends a zone and by how many passengers of each kind it differs, each number after a space.
 fn push_zone_change(
     text: &mut Builder,
     zone: u8,
@@ -245,50 +244,45 @@ fn push_zone_change(
     infants: i16,
 ) -> Result<(), NoMemory>
     ensures { OnOk result (text.new ≡ text.old ++ 32 ∷ (number_text zone ++ 32 ∷ (signed_text adults
-        ++ 32 ∷ (signed_text children ++ 32 ∷ (signed_text infants ++ 10 ∷ []))))) }
+        ++ 32 ∷ (signed_text children ++ 32 ∷ signed_text infants)))) }
 {
     push_number(text, u32::from(zone))?;
     push_signed(text, i32::from(adults))?;
     push_signed(text, i32::from(children))?;
-    push_signed(text, i32::from(infants))?;
-    text.end_line()
+    push_signed(text, i32::from(infants))
 }
 
-fn push_change(text: &mut Builder, change: &Lmc) -> Result<(), NoMemory>
-    ensures line { OnOk result (text.new ≡ text.old ++ (change_line change.now ++ 10 ∷ [])) }
-    ensures named { OnOk result (IsNamedChange change.now) }
-{
-    match change {
-        Lmc::Cabin {
-            zone,
-            adults,
-            children,
-            infants,
-        } => {
-            text.text(b"lmc zone")?;
-            push_zone_change(text, *zone, *adults, *children, *infants)
-        }
-        Lmc::Loose {
-            position,
-            mass,
-            pieces,
-        } => {
-            text.text(b"lmc bulk")?;
-            text.word(position.bytes())?;
-            push_signed(text, *mass)?;
-            push_signed(text, i32::from(*pieces))?;
-            text.end_line()
-        }
-    }
-}
+impl EntryWriter for Changes {
+    ghost use Rattle.flight_row.specs.RowText.{change_line};
+    ghost use Rattle.flight_row.specs.Spelled.{IsNamedChange};
 
-/// Appends the lines of the late changes.
-pub fn push_changes(text: &mut Builder, changes: &[Lmc]) -> Result<(), NoMemory>
-    ensures lines { OnOk result (text.new ≡ text.old ++ text_of (map change_line changes.now)) }
-    ensures named { OnOk result (All IsNamedChange changes.now) }
-{
-    for change in changes {
-        push_change(text, change)?;
+    type Entry = Lmc;
+
+    ghost text = { λ _. change_line };
+
+    ghost spelled = { λ _. IsNamedChange };
+
+    fn write(&self, change: &Lmc, text: &mut Builder) -> Result<(), NoMemory> {
+        match change {
+            Lmc::Cabin {
+                zone,
+                adults,
+                children,
+                infants,
+            } => {
+                text.text(b"lmc zone")?;
+                push_zone_change(text, *zone, *adults, *children, *infants)
+            }
+            Lmc::Loose {
+                position,
+                mass,
+                pieces,
+            } => {
+                text.text(b"lmc bulk")?;
+                text.word(position.bytes())?;
+                push_signed(text, *mass)?;
+                push_signed(text, i32::from(*pieces))
+            }
+        }
     }
-    Ok(())
 }

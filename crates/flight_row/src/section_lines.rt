@@ -1,23 +1,20 @@
 //! Readers of the lines that a row may have any number of.
 
-ghost use Rattle.std.specs.Prelude.{◌≡◌, ◌≢◌, ℕ, ℤ, List, [], ◌∷◌, codes, IfSome, IfNone};
-ghost use Rattle.mass_units.specs.Spelling.{number_text, signed_text};
-ghost use Rattle.text_lines.specs.Lines.{line_of};
+ghost use Rattle.std.specs.Prelude.{◌≡◌, ◌≢◌, IfSome, IfNone};
 ghost use Rattle.hold_parts.specs.declared.parts.Item.{Item};
 ghost use Rattle.payload.specs.declared.figures.ZoneCount.{ZoneCount};
 ghost use Rattle.trim.specs.Limits.{HasFewPassengers};
 ghost use Rattle.trim.specs.declared.figures.LooseFigure.{LooseFigure};
 ghost use Rattle.flight_state.specs.declared.change.Lmc.{Lmc};
-ghost use Rattle.flight_state.specs.declared.change.Lmc.TheVariants.{Cabin, Loose};
 ghost use Rattle.flight_row.specs.RowText.{zone_line, container_line, loose_line, change_line};
 ghost use Rattle.flight_row.specs.Spelled.{IsSpelledContainer, IsSpelledLoad, IsSpelledChange};
 
 use crate::single_lines::MOST_MASS;
-use crate::words::Words;
 use flight_state::Lmc;
 use hold_limits::Item;
 use mass_units::Kg;
 use payload::ZoneCount;
+use text_lines::{IdWord, Last, NameWord, NumberWord, SignedWord, Then, read_fields};
 use trim::LooseFigure;
 
 /// The most persons of a kind in a zone, and the most pieces of a loose load.
@@ -26,23 +23,17 @@ const MOST_COUNT: u32 = 999;
 /// The most zones.
 const MOST_ZONES: u32 = 16;
 
-/// The word for a change of a zone.
-const ZONE: &[u8] = b"zone";
-
-/// The word for a change of a bulk position.
-const BULK: &[u8] = b"bulk";
-
 /// The count of a line `zone ADULTS CHILDREN INFANTS`.
 pub fn read_zone(line: &[u8]) -> Option<ZoneCount>
     ensures found { IfSome result (λ count. HasFewPassengers count × (line.now ≡ zone_line count)) }
     ensures none { IfNone result ((count : ZoneCount) → HasFewPassengers count → line.now ≢ zone_line count) }
 {
-    let mut words = Words::of(line);
-    words.keyword(b"zone")?;
-    let adults = words.number(MOST_COUNT)?;
-    let children = words.number(MOST_COUNT)?;
-    let infants = words.number(MOST_COUNT)?;
-    words.end()?;
+    let number = NumberWord {
+        least: 0,
+        most: MOST_COUNT,
+    };
+    let fields = Then(number, Then(number, Last(number)));
+    let (adults, (children, infants)) = read_fields(b"zone ", &fields, line)?;
     Some(ZoneCount {
         adults: adults as u16,
         children: children as u16,
@@ -55,11 +46,11 @@ pub fn read_container(line: &[u8]) -> Option<Item>
     ensures found { IfSome result (λ item. IsSpelledContainer item × (line.now ≡ container_line item)) }
     ensures none { IfNone result ((item : Item) → IsSpelledContainer item → line.now ≢ container_line item) }
 {
-    let mut words = Words::of(line);
-    words.keyword(b"container")?;
-    let id = words.identity()?;
-    let mass = words.number(MOST_MASS)?;
-    words.end()?;
+    let mass = NumberWord {
+        least: 0,
+        most: MOST_MASS,
+    };
+    let (id, mass) = read_fields(b"container ", &Then(IdWord, Last(mass)), line)?;
     Some(Item { id, mass: Kg(mass) })
 }
 
@@ -68,12 +59,16 @@ pub fn read_load(line: &[u8]) -> Option<LooseFigure>
     ensures found { IfSome result (λ load. IsSpelledLoad load × (line.now ≡ loose_line load)) }
     ensures none { IfNone result ((load : LooseFigure) → IsSpelledLoad load → line.now ≢ loose_line load) }
 {
-    let mut words = Words::of(line);
-    words.keyword(b"loose")?;
-    let position = words.name()?;
-    let mass = words.number(MOST_MASS)?;
-    let pieces = words.number(MOST_COUNT)?;
-    words.end()?;
+    let mass = NumberWord {
+        least: 0,
+        most: MOST_MASS,
+    };
+    let pieces = NumberWord {
+        least: 0,
+        most: MOST_COUNT,
+    };
+    let fields = Then(NameWord, Then(mass, Last(pieces)));
+    let (position, (mass, pieces)) = read_fields(b"loose ", &fields, line)?;
     Some(LooseFigure {
         position,
         mass: Kg(mass),
@@ -86,53 +81,23 @@ pub fn read_change(line: &[u8]) -> Option<Lmc>
     ensures found { IfSome result (λ change. IsSpelledChange change × (line.now ≡ change_line change)) }
     ensures none { IfNone result ((change : Lmc) → IsSpelledChange change → line.now ≢ change_line change) }
 {
-    let mut words = Words::of(line);
-    words.keyword(b"lmc")?;
-    let kind = words.next()?;
-    if kind == ZONE {
-        return zone_change(&mut words);
+    let number = SignedWord { most: MOST_COUNT };
+    let zone = NumberWord {
+        least: 1,
+        most: MOST_ZONES,
+    };
+    let fields = Then(zone, Then(number, Then(number, Last(number))));
+    if let Some((zone, (adults, (children, infants)))) = read_fields(b"lmc zone ", &fields, line) {
+        return Some(Lmc::Cabin {
+            zone: zone as u8,
+            adults: adults as i16,
+            children: children as i16,
+            infants: infants as i16,
+        });
     }
-    if kind == BULK {
-        return bulk_change(&mut words);
-    }
-    None
-}
-
-/// The change of the words `ZONE ADULTS CHILDREN INFANTS`.
-fn zone_change(words: &mut Words<'_>) -> Option<Lmc>
-    ensures found { IfSome result (λ change. IsSpelledChange change
-        × (change_line change ≡ line_of (codes "lmc" ∷ codes "zone" ∷ words.old))) }
-    ensures none { IfNone result ((zone : ℕ) (adults children infants : ℤ)
-        → IsSpelledChange (Cabin zone adults children infants)
-        → words.old ≢ number_text zone ∷ signed_text adults ∷ signed_text children ∷ signed_text infants ∷ []) }
-{
-    let zone = words.number(MOST_ZONES)?;
-    let adults = words.signed(MOST_COUNT)?;
-    let children = words.signed(MOST_COUNT)?;
-    let infants = words.signed(MOST_COUNT)?;
-    words.end()?;
-    if zone == 0 {
-        return None;
-    }
-    Some(Lmc::Cabin {
-        zone: zone as u8,
-        adults: adults as i16,
-        children: children as i16,
-        infants: infants as i16,
-    })
-}
-
-/// The change of the words `NAME MASS PIECES`.
-fn bulk_change(words: &mut Words<'_>) -> Option<Lmc>
-    ensures found { IfSome result (λ change. IsSpelledChange change
-        × (change_line change ≡ line_of (codes "lmc" ∷ codes "bulk" ∷ words.old))) }
-    ensures none { IfNone result ((name : List ℕ) (mass pieces : ℤ) → IsSpelledChange (Loose name mass pieces)
-        → words.old ≢ name ∷ signed_text mass ∷ signed_text pieces ∷ []) }
-{
-    let position = words.name()?;
-    let mass = words.signed(MOST_MASS)?;
-    let pieces = words.signed(MOST_COUNT)?;
-    words.end()?;
+    let mass = SignedWord { most: MOST_MASS };
+    let fields = Then(NameWord, Then(mass, Last(number)));
+    let (position, (mass, pieces)) = read_fields(b"lmc bulk ", &fields, line)?;
     Some(Lmc::Loose {
         position,
         mass,

@@ -18,6 +18,7 @@ use base_words::NoMemory;
 use flight_state::{Day, FlightName, Leg, Stage, Station};
 use mass_units::Kg;
 use std::alloc::Global;
+use text_lines::{IndexWord, Last, NumberWord, Then, read_fields};
 use trim::{Dry, Fuel, Regulated};
 
 /// The greatest mass, in kilograms.
@@ -71,14 +72,11 @@ pub fn read_edition(line: &[u8]) -> Option<u32>
     ensures found { IfSome result (λ edition. IsEdition edition × (line.now ≡ edition_line edition)) }
     ensures none { IfNone result ((edition : ℕ) → IsEdition edition → line.now ≢ edition_line edition) }
 {
-    let mut words = Words::of(line);
-    words.keyword(b"edition")?;
-    let edition = words.number(MOST_EDITIONS)?;
-    words.end()?;
-    if edition == 0 {
-        return None;
-    }
-    Some(edition)
+    let edition = NumberWord {
+        least: 1,
+        most: MOST_EDITIONS,
+    };
+    read_fields(b"edition ", &Last(edition), line)
 }
 
 /// The stage of a line `stage STAGE`.
@@ -100,15 +98,11 @@ pub fn read_releases(stage: Stage, line: &[u8]) -> Option<u32>
     ensures found { IfSome result (λ releases. AreToldReleases stage releases × (line.now ≡ releases_line releases)) }
     ensures none { IfNone result ((releases : ℕ) → AreToldReleases stage releases → line.now ≢ releases_line releases) }
 {
-    let mut words = Words::of(line);
-    words.keyword(b"releases")?;
-    let releases = words.number(MOST_EDITIONS)?;
-    words.end()?;
-    let least = first_releases(stage);
-    if releases < least {
-        return None;
-    }
-    Some(releases)
+    let releases = NumberWord {
+        least: first_releases(stage),
+        most: MOST_EDITIONS,
+    };
+    read_fields(b"releases ", &Last(releases), line)
 }
 
 /// How often a flight counts as released whose row does not say it: this often at least if it does.
@@ -126,16 +120,16 @@ pub fn read_dry(line: &[u8]) -> Option<Dry>
     ensures found { IfSome result (λ dry. IsSpelledDry dry × (line.now ≡ dry_line dry)) }
     ensures none { IfNone result ((dry : Dry) → IsSpelledDry dry → line.now ≢ dry_line dry) }
 {
-    let mut words = Words::of(line);
-    words.keyword(b"dry")?;
-    let mass = words.number(MOST_MASS)?;
-    let index = words.index()?;
-    let cockpit = words.number(MOST_CREW)?;
-    let attendants = words.number(MOST_CREW)?;
-    words.end()?;
-    if mass == 0 {
-        return None;
-    }
+    let mass = NumberWord {
+        least: 1,
+        most: MOST_MASS,
+    };
+    let crew = NumberWord {
+        least: 0,
+        most: MOST_CREW,
+    };
+    let fields = Then(mass, Then(IndexWord, Then(crew, Last(crew))));
+    let (mass, (index, (cockpit, attendants))) = read_fields(b"dry ", &fields, line)?;
     Some(Dry {
         mass: Kg(mass),
         index,
@@ -149,12 +143,12 @@ pub fn read_fuel(line: &[u8]) -> Option<Fuel>
     ensures found { IfSome result (λ fuel. IsSpelledFuel fuel × (line.now ≡ fuel_line fuel)) }
     ensures none { IfNone result ((fuel : Fuel) → IsSpelledFuel fuel → line.now ≢ fuel_line fuel) }
 {
-    let mut words = Words::of(line);
-    words.keyword(b"fuel")?;
-    let taxi = words.number(MOST_MASS)?;
-    let take_off = words.number(MOST_MASS)?;
-    let trip = words.number(MOST_MASS)?;
-    words.end()?;
+    let mass = NumberWord {
+        least: 0,
+        most: MOST_MASS,
+    };
+    let fields = Then(mass, Then(mass, Last(mass)));
+    let (taxi, (take_off, trip)) = read_fields(b"fuel ", &fields, line)?;
     if trip > take_off {
         return None;
     }
@@ -170,11 +164,11 @@ pub fn read_limits(line: &[u8]) -> Option<Regulated>
     ensures found { IfSome result (λ limits. AreSpelledLimits limits × (line.now ≡ limits_line limits)) }
     ensures none { IfNone result ((limits : Regulated) → AreSpelledLimits limits → line.now ≢ limits_line limits) }
 {
-    let mut words = Words::of(line);
-    words.keyword(b"limits")?;
-    let take_off = words.number(MOST_MASS)?;
-    let landing = words.number(MOST_MASS)?;
-    words.end()?;
+    let mass = NumberWord {
+        least: 0,
+        most: MOST_MASS,
+    };
+    let (take_off, landing) = read_fields(b"limits ", &Then(mass, Last(mass)), line)?;
     Some(Regulated {
         take_off: Kg(take_off),
         landing: Kg(landing),

@@ -1,12 +1,10 @@
 //! The words of a line, one after another.
 
-ghost use Rattle.std.specs.Prelude.{◌≡◌, ◌≢◌, ℕ, ℤ, ◌≤◌, ◌<◌, ◌^◌, List, [], ◌∷◌, unsigned_abs, ◌↔◌, IfSome, IfNone, IsTrue};
-ghost use Rattle.mass_units.specs.Spelling.{number_text, signed_text, index_text, IsIndex};
-ghost use Rattle.hold_parts.specs.Spellings.{IsName, IsUldId};
+ghost use Rattle.std.specs.Prelude.{◌≡◌, ◌≢◌, ℕ, List, [], ◌∷◌, ◌↔◌, IfSome, IfNone, IsTrue};
+ghost use Rattle.hold_parts.specs.Spellings.{IsName};
 ghost use Rattle.flight_row.specs.Words.{words_in};
 
-use hold_limits::{Name, UldId};
-use mass_units::{Ticks, read_long_number, read_signed, read_ticks5};
+use hold_limits::Name;
 use std::marker::Model;
 use text_lines::split_once;
 
@@ -69,51 +67,12 @@ impl<'a> Words<'a> {
         }
     }
 
-    /// Reads a number up to the greatest.
-    pub fn number(&mut self, most: u32) -> Option<u32>
-        ensures found { IfSome result (λ n. (n ≤ most) × (self.old ≡ number_text n ∷ self.new)) }
-        ensures none { IfNone result ((n : ℕ) (rest : List (List ℕ)) → n ≤ most → self.old ≢ number_text n ∷ rest) }
-    {
-        let number = read_long_number(self.next()?)?;
-        if number <= most { Some(number) } else { None }
-    }
-
-    /// Reads a signed number up to the greatest absolute value.
-    pub fn signed(&mut self, most: u32) -> Option<i32>
-        requires { most < 10 ^ 9 }
-        ensures found { IfSome result (λ z. (unsigned_abs z ≤ most) × (self.old ≡ signed_text z ∷ self.new)) }
-        ensures none { IfNone result ((z : ℤ) (rest : List (List ℕ)) → unsigned_abs z ≤ most → self.old ≢ signed_text z ∷ rest) }
-    {
-        let number = read_signed(self.next()?)?;
-        if number.unsigned_abs() <= most {
-            Some(number)
-        } else {
-            None
-        }
-    }
-
-    /// Reads an index.
-    pub fn index(&mut self) -> Option<Ticks>
-        ensures found { IfSome result (λ t. IsIndex t.0 × (self.old ≡ index_text t.0 ∷ self.new)) }
-        ensures none { IfNone result ((z : ℤ) (rest : List (List ℕ)) → IsIndex z → self.old ≢ index_text z ∷ rest) }
-    {
-        read_ticks5(self.next()?).ok()
-    }
-
     /// Reads the name of a position.
     pub fn name(&mut self) -> Option<Name>
         ensures found { IfSome result (λ name. IsName name × (self.old ≡ name ∷ self.new)) }
         ensures none { IfNone result ((name : List ℕ) (rest : List (List ℕ)) → IsName name → self.old ≢ name ∷ rest) }
     {
         Name::read(self.next()?)
-    }
-
-    /// Reads the identity of a container.
-    pub fn identity(&mut self) -> Option<UldId>
-        ensures found { IfSome result (λ id. IsUldId id × (self.old ≡ id ∷ self.new)) }
-        ensures none { IfNone result ((id : List ℕ) (rest : List (List ℕ)) → IsUldId id → self.old ≢ id ∷ rest) }
-    {
-        UldId::read(self.next()?)
     }
 
     /// Whether all words are read.

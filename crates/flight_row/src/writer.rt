@@ -6,12 +6,13 @@ ghost use Rattle.flight_row.specs.declared.row.Version.TheVariants.{Two};
 ghost use Rattle.flight_row.specs.RowText.{row_text};
 ghost use Rattle.flight_row.specs.Loading.{HasRow, KeepsPlan, Reads, aircraft_of, row_of};
 
-use crate::row_lines::{push_base, push_changes, push_head, push_plan};
+use crate::row_lines::{Changes, push_base, push_head, push_plan};
 use aircraft_file::Aircraft;
 use base_words::NoMemory;
 use flight_state::FlightState;
 use std::alloc::Global;
 use telex::Builder;
+use text_lines::write_lines;
 
 /// Writes the one row of a flight in the second version. Where its plan holds it is read back as the same flight.
 pub fn write_row(alloc: Global, a: &Aircraft, s: &FlightState) -> Result<Vec<u8>, NoMemory>
@@ -26,7 +27,7 @@ pub fn write_row(alloc: Global, a: &Aircraft, s: &FlightState) -> Result<Vec<u8>
     push_head(&mut text, s)?;
     push_base(&mut text, &s.base)?;
     push_plan(&mut text, hold, s)?;
-    push_changes(&mut text, s.lmcs.as_slice())?;
+    write_lines(&Changes, s.lmcs.as_slice(), &mut text)?;
     text.text(b"END")?;
     text.end_line()?;
     Ok(text.finish())

@@ -20,7 +20,7 @@ use Rattle.text_lines.specs.Lines.{line_of, text_of}
 use Rattle.text_lines.proofs.NameLemmas.{name_at-avoids}
 use Rattle.text_lines.proofs.WordLemmas.{avoids-spaced, plain_word}
 use Rattle.plan_text.specs.PlanText.{place_line, place_lines, balance_lines, difference_lines, plan_lines}
-use Rattle.text_lines.proofs.SpelledWords.{id_avoids}
+use Rattle.text_lines.specs.SpelledWords.{id_avoids}
 use Rattle.certificate.specs.Starts.{IsEarlier}
 use Rattle.certificate.proofs.PathLemmas.{clear_names}
 use Rattle.placer.specs.AnswerText.{claim_text}

@@ -1,6 +1,6 @@
 pub mod PositionLemmas
-pub mod LimitLemmas
 pub mod LineLemmas
+pub mod LimitLemmas
 pub mod SmallerTexts
 pub mod LineKinds
 pub mod TaskParts

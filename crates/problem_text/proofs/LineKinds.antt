@@ -1,5 +1,5 @@
 -- the kinds of a task's lines come in their order, and none comes back
-use Rattle.std.proofs.Common.{◌≡◌, ℕ, ◌+◌, ◌<◌, ◌≤◌, ℤ, Bool, true, false, cond, eqb, ◌++◌, ◌∷◌, List, [], map, refl, ap, sym, subst, ◌∙◌, arith, Option, Some, None, lit<}
+use Rattle.std.proofs.Common.{◌≡◌, ℕ, ◌+◌, ◌<◌, ◌≤◌, Bool, true, false, cond, eqb, ◌++◌, ◌∷◌, List, [], map, refl, ap, sym, subst, ◌∙◌, arith, Option, Some, None, lit<}
 use Rattle.std.proofs.lemmas.List.{append_assoc}
 use Rattle.hold_limits.specs.Problem.{Problem}
 use Rattle.hold_parts.specs.declared.parts.Position.{Position}

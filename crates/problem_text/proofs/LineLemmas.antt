@@ -1,53 +1,90 @@
--- lines that name no position
-use Rattle.std.proofs.Common.{◌≡◌, ℕ, ℤ, ◌++◌, ◌∷◌, refl, codes, lit<}
-use Rattle.std.proofs.lemmas.List.{append_cancel_left}
-use Rattle.mass_units.specs.Spelling.{number_text, index_text}
-use Rattle.mass_units.proofs.SpellingLemmas.{number_text-avoids, number_text-injective, index_text-avoids, index_text-injective}
+-- each kind of line of a task is read in one way only
+use Rattle.std.proofs.Common.{◌≡◌, ◌++◌, ℕ, List, refl, codes}
+use Rattle.hold_parts.specs.declared.parts.Position.{Position}
+use Rattle.hold_parts.specs.declared.parts.Combined.{Combined}
+use Rattle.hold_parts.specs.declared.parts.Cumulative.{Cumulative}
 use Rattle.hold_parts.specs.declared.parts.Item.{Item}
-use Rattle.text_lines.specs.Cuts.{Avoids}
-use Rattle.problem_text.specs.TaskText.{lateral_line, item_line, base_line, window_line, ideal_line, IsSpelledItem}
-use Rattle.text_lines.proofs.CutLemmas.{split_once_again}
-use Rattle.text_lines.proofs.SpelledWords.{id_avoids}
-use Rattle.text_lines.proofs.WordLemmas.{avoids-append, avoids-spaced, plain_word}
+use Rattle.hold_parts.specs.declared.parts.Loose.{Loose}
+use Rattle.mass_units.specs.declared.Kg.{Kg}
+use Rattle.mass_units.specs.declared.Ticks.{Ticks}
+use Rattle.mass_units.specs.Spelling.{number_text, IsNumber, IsIndex}
+use Rattle.text_lines.specs.WordRuns.{run_text, name_text}
+use Rattle.text_lines.proofs.NameRuns.{AreNames, line_of-names}
+use Rattle.text_lines.proofs.Rests.{IsLineKind}
+use Rattle.text_lines.proofs.FieldLemmas.{HasWord, IsWordKind, masses, indices, identities, named, two_words, last_field, and_then, then_run, word_entries, behind_word, of_parts, of_spelled, written_as}
+use Rattle.problem_text.specs.TaskText.{end_word, side_word, exclude_line, combined_line, cumulative_line, side_line, lateral_line, item_line, loose_line, base_line, window_line, ideal_line, IsSpelledExclude, IsSpelledCombined, IsSpelledCumulative, IsSpelledSide, IsSpelledItem, IsSpelledLoose}
 
-pub lateral_avoids : (most : ℕ) → Avoids 10 (lateral_line most)
-lateral_avoids most = avoids-append 10 (codes "lateral ") (number_text most) (plain_word 10 (codes "lateral ") refl) (number_text-avoids 10 most (lit< tt))
+pub items : IsLineKind item_line IsSpelledItem
+items = of_parts (behind_word (codes "item ") refl (and_then identities (last_field masses)))
+    (λ (x : Item). (x.id, x.mass)) (λ x y e i. record { id = (e i).0; mass = (e i).1 }) (λ x s. (s.id, tt))
 
-pub lateral_once : (a b : ℕ) → lateral_line a ≡ lateral_line b → a ≡ b
-lateral_once a b e = number_text-injective a b (append_cancel_left (codes "lateral ") _ _ e)
+pub ends : IsWordKind end_word HasWord
+ends = two_words end_word refl refl refl
 
-pub item_avoids : (x : Item) → IsSpelledItem x → Avoids 10 (item_line x)
-item_avoids x s =
-    avoids-append 10 (codes "item ") (x.id ++ 32 ∷ number_text x.mass.0) (plain_word 10 (codes "item ") refl) (avoids-spaced 10 x.id (number_text x.mass.0) refl (id_avoids 10 x.id (lit< tt) s.id) (number_text-avoids 10 x.mass.0 (lit< tt)))
+pub side_words : IsWordKind side_word HasWord
+side_words = two_words side_word refl refl refl
 
-pub item_once : (x y : Item) → IsSpelledItem x → IsSpelledItem y → item_line x ≡ item_line y → x ≡ y
-item_once x y s t e =
-    let parts = split_once_again 32 x.id (number_text x.mass.0) y.id (number_text y.mass.0) (id_avoids 32 x.id (lit< tt) s.id) (id_avoids 32 y.id (lit< tt) t.id) (append_cancel_left (codes "item ") _ _ e) in
-    let mass = number_text-injective x.mass.0 y.mass.0 parts.1 in
-    λ i. record { id = parts.0 i; mass = record { 0 = mass i } }
+-- Lines that name positions -----------------------------------------------------------------------
 
-pub base_avoids : (index : ℤ) → Avoids 10 (base_line index)
-base_avoids index = avoids-append 10 (codes "base ") (index_text index) (plain_word 10 (codes "base ") refl) (index_text-avoids 10 index (lit< tt))
+module _ (ps : List Position) (names : AreNames ps) where
+  pub excludes : IsLineKind (exclude_line ps) (IsSpelledExclude ps)
+  excludes = behind_word (codes "exclude ") refl (and_then (named ps names) (last_field (named ps names)))
 
-band_avoids : (low high : ℤ) → Avoids 10 (index_text low ++ 32 ∷ index_text high)
-band_avoids low high = avoids-spaced 10 (index_text low) (index_text high) refl (index_text-avoids 10 low (lit< tt)) (index_text-avoids 10 high (lit< tt))
+  pub cumulative : IsLineKind (cumulative_line ps) (IsSpelledCumulative ps)
+  cumulative = of_parts (behind_word (codes "cumulative ") refl (and_then ends (and_then (named ps names) (last_field masses))))
+      (λ (x : Cumulative). (x.forward, (x.place, x.most))) (λ x y e i. record { forward = (e i).0; place = (e i).1.0; most = (e i).1.1 }) (λ x s. (tt, (s.place, tt)))
 
-pub window_avoids : (low high : ℤ) → Avoids 10 (window_line low high)
-window_avoids low high = avoids-append 10 (codes "window ") _ (plain_word 10 (codes "window ") refl) (band_avoids low high)
+  pub sides : IsLineKind (side_line ps) (IsSpelledSide ps)
+  sides = of_parts (behind_word (codes "side ") refl (and_then (named ps names) (last_field side_words))) (λ x. x) (λ x y e. e) (λ x s. (s, tt))
 
-pub ideal_avoids : (low high : ℤ) → Avoids 10 (ideal_line low high)
-ideal_avoids low high = avoids-append 10 (codes "ideal ") _ (plain_word 10 (codes "ideal ") refl) (band_avoids low high)
+  pub loads : IsLineKind (loose_line ps) (IsSpelledLoose ps)
+  loads = of_parts (behind_word (codes "loose ") refl (and_then (named ps names) (last_field masses)))
+      (λ (x : Loose). (x.position, x.mass)) (λ x y e i. record { position = (e i).0; mass = (e i).1 }) (λ x s. (s.position, tt))
 
-pub base_once : (a b : ℤ) → base_line a ≡ base_line b → a ≡ b
-base_once a b e = index_text-injective a b (append_cancel_left (codes "base ") _ _ e)
+pub combined_line-is : (ps : List Position) (limit : Combined) → combined_line ps limit ≡ codes "combined " ++ (number_text limit.most.0 ++ run_text (name_text ps) limit.places)
+combined_line-is ps limit i = codes "combined " ++ line_of-names (number_text limit.most.0) ps limit.places i
 
-band_once : (low high low' high' : ℤ) → index_text low ++ 32 ∷ index_text high ≡ index_text low' ++ 32 ∷ index_text high' → (low ≡ low') × (high ≡ high')
-band_once low high low' high' e =
-    let words = split_once_again 32 (index_text low) (index_text high) (index_text low') (index_text high') (index_text-avoids 32 low (lit< tt)) (index_text-avoids 32 low' (lit< tt)) e in
-    (index_text-injective low low' words.0, index_text-injective high high' words.1)
+pub combined : (ps : List Position) → AreNames ps → IsLineKind (combined_line ps) (IsSpelledCombined ps)
+combined ps names =
+    written_as
+    (of_parts (behind_word (codes "combined ") refl (then_run masses (word_entries (named ps names))))
+    (λ (x : Combined). (x.most, x.places)) (λ x y e i. record { places = (e i).1; most = (e i).0 }) (λ x s. (tt, s.places)))
+    (combined_line-is ps)
 
-pub window_once : (low high low' high' : ℤ) → window_line low high ≡ window_line low' high' → (low ≡ low') × (high ≡ high')
-window_once low high low' high' e = band_once low high low' high' (append_cancel_left (codes "window ") _ _ e)
+-- Lines of a mass and of indices ------------------------------------------------------------------
 
-pub ideal_once : (low high low' high' : ℤ) → ideal_line low high ≡ ideal_line low' high' → (low ≡ low') × (high ≡ high')
-ideal_once low high low' high' e = band_once low high low' high' (append_cancel_left (codes "ideal ") _ _ e)
+abbrev pub lateral_text : Kg → List ℕ
+lateral_text most = lateral_line most.0
+
+abbrev pub base_text : Ticks → List ℕ
+base_text base = base_line base.0
+
+abbrev pub Band : Type 0
+Band = Ticks × Ticks
+
+abbrev pub window_text : Band → List ℕ
+window_text band = window_line band.0.0 band.1.0
+
+abbrev pub ideal_text : Band → List ℕ
+ideal_text band = ideal_line band.0.0 band.1.0
+
+abbrev pub IsSpelledMass : Kg → Type 0
+IsSpelledMass most = IsNumber most.0
+
+abbrev pub IsSpelledIndex : Ticks → Type 0
+IsSpelledIndex index = IsIndex index.0
+
+abbrev pub IsSpelledBand : Band → Type 0
+IsSpelledBand band = IsIndex band.0.0 × IsIndex band.1.0
+
+pub lateral : IsLineKind lateral_text IsSpelledMass
+lateral = of_spelled (behind_word (codes "lateral ") refl (last_field masses)) (λ most s. tt)
+
+pub base : IsLineKind base_text IsSpelledIndex
+base = of_spelled (behind_word (codes "base ") refl (last_field indices)) (λ index s. tt)
+
+pub window : IsLineKind window_text IsSpelledBand
+window = of_spelled (behind_word (codes "window ") refl (and_then indices (last_field indices))) (λ band s. (tt, tt))
+
+pub ideal : IsLineKind ideal_text IsSpelledBand
+ideal = of_spelled (behind_word (codes "ideal ") refl (and_then indices (last_field indices))) (λ band s. (tt, tt))

@@ -1,8 +1,9 @@
 -- what the steps of the reader make of a text
-use Rattle.std.proofs.Common.{◌≡◌, ℕ, Bool, ◌+◌, ◌++◌, ◌∷◌, List, [], map, refl, sym, ◌∙◌, ap, subst, arith, All, Option, Some, None, IfSome, option_map, lit<}
+use Rattle.std.proofs.Common.{◌≡◌, ℕ, Bool, ◌+◌, ◌++◌, ◌∷◌, List, [], map, refl, sym, ◌∙◌, ap, pos, subst, arith, All, Option, Some, None, IfSome, option_map, lit<}
 use Rattle.std.proofs.lemmas.List.{append_assoc, length-append, length-map}
 use Rattle.std.proofs.lemmas.List.Elements.{All-nil}
-use Rattle.mass_units.specs.Spelling.{IsNumber}
+use Rattle.mass_units.specs.declared.Kg.{Kg}
+use Rattle.mass_units.specs.declared.Ticks.{Ticks}
 use Rattle.hold_limits.specs.Problem.{Problem}
 use Rattle.hold_parts.specs.declared.parts.Position.{Position}
 use Rattle.hold_parts.specs.declared.parts.Combined.{Combined}
@@ -11,15 +12,15 @@ use Rattle.hold_parts.specs.declared.parts.Lateral.{Lateral}
 use Rattle.hold_parts.specs.declared.parts.Indices.{Indices}
 use Rattle.text_lines.specs.Lines.{text_of, IsStopped}
 use Rattle.text_lines.specs.Grammar.{Fails}
+use Rattle.text_lines.specs.Sections.{IsOfKind}
 use Rattle.text_lines.specs.declared.lines.Lines.{Lines as Point}
 use Rattle.text_lines.specs.declared.fault.LineFault.{LineFault}
 use Rattle.text_lines.proofs.SectionLemmas.{text_of-append}
 use Rattle.text_lines.proofs.PartSteps.{IsAny, PartBetween, section_part, whole_part}
-use Rattle.text_lines.proofs.Rests.{Rest, FailsAt, behind, Leads, then, StartsWithOne, fails_at_one}
+use Rattle.text_lines.proofs.Rests.{Rest, FailsAt, behind, Leads, then, StartsWithOne, past_said, fails_at_one}
 use Rattle.text_lines.proofs.RunsOfLines.{StartsWithRun, past_run}
 use Rattle.problem_text.proofs.SmallerTexts.{Holds, fails_within, read_within}
 use Rattle.problem_text.specs.TaskText.{exclude_line, combined_line, cumulative_line, side_line, lateral_line, lateral_lines, item_line, IsSpelledPosition, IsSpelledExclude, IsSpelledCombined, IsSpelledCumulative, IsSpelledSide, IsSpelledLateral, IsSpelledItem, IsSpelledLoose}
-use Rattle.problem_text.specs.Reading.{IsLateralLine}
 use Rattle.problem_text.specs.PositionNumbers.{keep_pair, keep_combined, keep_cumulative, keep_lateral, keep_loose, keep_problem}
 use Rattle.problem_text.specs.Parts.{IsLateral, AreSections, AreIndices, last_lines, problem_of_parts}
 use Rattle.problem_text.specs.Parts.IsLateral.{absent, present}
@@ -28,11 +29,11 @@ use Rattle.problem_text.specs.declared.parts.Version.{Version}
 use Rattle.problem_text.specs.declared.parts.Version.TheVariants.{Two}
 use Rattle.problem_text.specs.declared.parts.Sections.{Sections}
 use Rattle.problem_text.specs.declared.parts.Parts.{Parts}
-use Rattle.problem_text.proofs.LineLemmas.{lateral_avoids, lateral_once}
-use Rattle.problem_text.proofs.LimitLemmas.{side_avoids, side_once}
+use Rattle.problem_text.proofs.LineLemmas as kind
+use Rattle.problem_text.proofs.LineLemmas.{Band, lateral_text, base_text, window_text, ideal_text, IsSpelledMass, IsSpelledIndex, IsSpelledBand}
 use Rattle.problem_text.proofs.LineKinds.{sides_end}
 use Rattle.problem_text.proofs.RefusalLemmas.{empty_task, zero_index}
-use Rattle.problem_text.proofs.TaskParts.{clear_names, limits, from_lateral, from_last, lateral_on, indices, task_with, are_indices, SaysLateral, starts_with_excludes, starts_with_combined, starts_with_cumulative, starts_with_items, starts_with_loose, past_lateral}
+use Rattle.problem_text.proofs.TaskParts.{are_names, limits, from_lateral, from_last, lateral_on, indices, from_ideal, from_end, indices_with, are_spelled, starts_with_base, starts_with_window, starts_with_ideal, task_with, are_indices, SaysLateral, starts_with_excludes, starts_with_combined, starts_with_cumulative, starts_with_items, starts_with_loose, past_lateral}
 
 abbrev Lines : Type 0
 Lines = List (List ℕ)
@@ -47,7 +48,7 @@ pub record LateralRead (version : Version) (ps : List Position) (here there : Po
 lateral_read : (version : Version) (ps : List Position) (here there : Point) (got : Option Lateral) → IsLateral ps here there version got → LateralRead version ps here there got
 lateral_read _ ps here there _ (absent e counted) = record {
   said = None;
-  says = record { version_is = refl; right = tt; read = e; counted = omega (arith, counted) };
+  says = record { right = (refl, tt); read = e; counted = omega (arith, counted) };
   kept = refl;
 }
 lateral_read _ ps here there _ (present got behind s most e counted) =
@@ -59,8 +60,7 @@ lateral_read _ ps here there _ (present got behind s most e counted) =
     record {
       said = Some (record { most = got.most; sides = s.said });
       says = record {
-        version_is = refl;
-        right = record { sides = s.right; most = most };
+        right = (refl, record { sides = s.right; most = most });
         read = s.read ∙ ap (λ t. text_of sides ++ t) (e ∙ sym (append_assoc line (10 ∷ []) there.rest.now))
             ∙ sym (append_assoc (text_of sides) (line ++ 10 ∷ []) there.rest.now) ∙ ap (λ t. t ++ there.rest.now) (sym (text_of-append sides (line ∷ [])));
         counted = omega (arith, long, few, old, counted);
@@ -129,7 +129,7 @@ module _ (version : Version) (ps : List Position) (spelled : All IsSpelledPositi
         excludes = s.excludes.right;
         combined = s.combined.right;
         cumulative = s.cumulative.right;
-        lateral = lateral.says.right;
+        lateral = lateral.says.right.1;
         items = items_are.right;
         loose = s.loose.right;
         base = right.base;
@@ -138,7 +138,7 @@ module _ (version : Version) (ps : List Position) (spelled : All IsSpelledPositi
         ideal_low = right.ideal_low;
         ideal_high = right.ideal_high;
       };
-      version_is = lateral.says.version_is;
+      version_is = lateral.says.right.0;
       positions_are = refl;
     }
 
@@ -189,42 +189,42 @@ sides_of : Option Lateral → List (ℕ × Bool)
 sides_of None = []
 sides_of (Some lateral) = lateral.sides
 
-most_of : Option Lateral → ℕ
-most_of None = 0
-most_of (Some lateral) = lateral.most.0
+most_of : Option Lateral → Kg
+most_of None = record { 0 = 0 }
+most_of (Some lateral) = lateral.most
 
 module _ (ps : List Position) (spelled : All IsSpelledPosition ps) where
-  lateral_are : (lateral : Option Lateral) (lines : Lines) → version_of lateral ≡ Two → lateral_lines ps lateral ++ lines ≡ map (side_line ps) (sides_of lateral) ++ (lateral_line (most_of lateral) ∷ lines)
+  lateral_are : (lateral : Option Lateral) (lines : Lines) → version_of lateral ≡ Two → lateral_lines ps lateral ++ lines ≡ map (side_line ps) (sides_of lateral) ++ (lateral_text (most_of lateral) ∷ lines)
   unfolding sides_of most_of
   lateral_are None lines v = absurd (cc)
   lateral_are (Some l) lines v = append_assoc (map (side_line ps) l.sides) (lateral_line l.most.0 ∷ []) lines
 
-  lateral_right : (lateral : Option Lateral) → version_of lateral ≡ Two → IfSome lateral (IsSpelledLateral ps) → All (IsSpelledSide ps) (sides_of lateral) × IsNumber (most_of lateral)
+  lateral_right : (lateral : Option Lateral) → version_of lateral ≡ Two → IfSome lateral (IsSpelledLateral ps) → All (IsSpelledSide ps) (sides_of lateral) × IsSpelledMass (most_of lateral)
   unfolding sides_of most_of
   lateral_right None v s = absurd (cc)
   lateral_right (Some l) v s = (s.sides, s.most)
 
-  right_of : (t : Problem) → IsTaskOf Two ps t → All (IsSpelledSide ps) (sides_of t.hold.lateral) × IsNumber (most_of t.hold.lateral)
+  right_of : (t : Problem) → IsTaskOf Two ps t → All (IsSpelledSide ps) (sides_of t.hold.lateral) × IsSpelledMass (most_of t.hold.lateral)
   right_of t s = lateral_right t.hold.lateral s.version_is (subst (λ (qs : List Position). IfSome t.hold.lateral (IsSpelledLateral qs)) s.positions_are s.spelled.lateral)
 
   most_part : Problem → Lines
-  most_part t = lateral_line (most_of t.hold.lateral) ∷ item_part ps t
+  most_part t = lateral_text (most_of t.hold.lateral) ∷ item_part ps t
 
   starts_with_sides : StartsWithRun (lateral_on Two ps) (side_line ps) (IsSpelledSide ps) IsAny (λ t. sides_of t.hold.lateral) most_part
   unfolding most_part
   starts_with_sides = record {
-    kind = record { once = side_once ps (clear_names 32 ps (lit< tt) spelled); avoids = side_avoids ps (clear_names 10 ps (lit< tt) spelled) };
+    kind = kind.sides ps (are_names ps spelled);
     front = λ xs ys any. tt;
     right = λ t s. (right_of t s).0;
     allowed = λ t s. tt;
     are = λ t s. lateral_are t.hold.lateral (item_part ps t) s.version_is;
-    other = λ t s. sides_end ps (most_of t.hold.lateral) (item_part ps t);
+    other = λ t s. sides_end ps (most_of t.hold.lateral).0 (item_part ps t);
   }
 
-  starts_with_most : (sides : List (ℕ × Bool)) → StartsWithOne (behind (lateral_on Two ps) (λ t. sides_of t.hold.lateral) sides most_part) lateral_line IsNumber (λ t. most_of t.hold.lateral) (item_part ps)
+  starts_with_most : (sides : List (ℕ × Bool)) → StartsWithOne (behind (lateral_on Two ps) (λ t. sides_of t.hold.lateral) sides most_part) lateral_text IsSpelledMass (λ t. most_of t.hold.lateral) (item_part ps)
   unfolding most_part
   starts_with_most sides = record {
-    kind = record { once = λ a b s t e. lateral_once a b e; avoids = λ most s. lateral_avoids most };
+    kind = kind.lateral;
     right = λ t s. (right_of t s.0).1;
     are = λ t s. refl;
   }
@@ -254,7 +254,30 @@ module _ (ps : List Position) (spelled : All IsSpelledPosition ps) where
     positions_are = refl;
   }
 
-  pub fails_behind_sides : (here there : Point) (sides : List (ℕ × Bool)) (fault : LineFault) → PartBetween (side_line ps) (IsSpelledSide ps) IsAny here there sides → IsStopped there.rest.now there.number IsLateralLine fault → FailsAt (lateral_on Two ps) here fault
+  pub fails_behind_sides : (here there : Point) (sides : List (ℕ × Bool)) (fault : LineFault) → PartBetween (side_line ps) (IsSpelledSide ps) IsAny here there sides → IsStopped there.rest.now there.number (IsOfKind lateral_text IsSpelledMass) fault → FailsAt (lateral_on Two ps) here fault
   unfolding some_task sides_of
   fails_behind_sides here there sides fault are stopped =
       (past_run starts_with_sides here there are).fails fault (fails_at_one (starts_with_most sides) (some_task sides) (some_is sides are.right, refl) there fault stopped)
+
+-- The lines of the indices ------------------------------------------------------------------------
+
+pub zeros : Band
+zeros = (record { 0 = pos 0 }, record { 0 = pos 0 })
+
+pub zeros_right : IsSpelledBand zeros
+unfolding zeros
+zeros_right = (zero_index, zero_index)
+
+-- a line that was read between two points
+abbrev pub Reads : {X : Type 0} → (X → List ℕ) → (X → Type 0) → Point → Point → X → Type 0
+Reads line IsRight here there x = (IsRight x × (here.rest.now ≡ line x ++ 10 ∷ there.rest.now)) × (there.number ≡ here.number + 1)
+
+pub to_ideal : (l0 l1 l2 : Point) (base : Ticks) (window : Band) → Reads base_text IsSpelledIndex l0 l1 base → Reads window_text IsSpelledBand l1 l2 window → Leads indices l0 (from_ideal base window) l2
+to_ideal l0 l1 l2 base window b w = then (past_said starts_with_base l0 l1 base b.0 b.1) (past_said (starts_with_window base) l1 l2 window w.0 w.1)
+
+pub to_end : (l0 l1 l2 l3 : Point) (base : Ticks) (window ideal : Band) → Reads base_text IsSpelledIndex l0 l1 base → Reads window_text IsSpelledBand l1 l2 window → Reads ideal_text IsSpelledBand l2 l3 ideal
+    → Leads indices l0 (from_end base window ideal) l3 × (from_end base window ideal).Is (indices_with base window ideal)
+to_end l0 l1 l2 l3 base window ideal b w i = (
+  then (to_ideal l0 l1 l2 base window b w) (past_said (starts_with_ideal base window) l2 l3 ideal i.0 i.1),
+  (((are_spelled base window ideal b.0.0 w.0.0 i.0.0, refl), refl), refl),
+)

@@ -1,10 +1,8 @@
 -- a lawful task whose names and identities are spelled is in its spelling
-use Rattle.std.proofs.Common.{◌≡◌, ◌≢◌, ℕ, ◌<◌, ◌≤◌, ◌^◌, ℤ, Bool, true, false, List, [], length, take, get_or, Option, Some, None, IfSome, ap, sym, ◌∙◌, arith, unsigned_abs}
-use Rattle.std.proofs.lemmas.List.{get_or-take, length-take}
+use Rattle.std.proofs.Common.{ℕ, ◌<◌, ◌≤◌, ◌^◌, ℤ, Bool, true, false, List, [], length, get_or, Option, Some, None, IfSome, arith, unsigned_abs}
 use Rattle.std.proofs.lemmas.List.Elements.{All-weaker}
-use Rattle.std.proofs.lemmas.Option.{slice_get-get_or}
 use Rattle.std.specs.Option.{option_map_or}
-use Rattle.std.specs.Prelude.{All, AllPairs, slice_get}
+use Rattle.std.specs.Prelude.{All}
 use Rattle.mass_units.specs.Spelling.{IsNumber, IsSignedNumber, IsIndex}
 use Rattle.hold_parts.specs.declared.lists.Fit.{Fit}
 use Rattle.hold_parts.specs.declared.parts.Position.{Position}
@@ -17,7 +15,7 @@ use Rattle.hold_limits.specs.Bounds.{HasUpTo16Kinds, IsContainerMass}
 use Rattle.hold_limits.proofs.LawfulBounds.{hold-bounds, lawful-bounds}
 use Rattle.problem_text.specs.TaskText.{NamesKindsUnlessBulk, IsSpelledLateral, IsSpelled}
 use Rattle.text_lines.specs.Names.{IsNamed}
-use Rattle.hold_limits.specs.Layout.{name_at}
+use Rattle.text_lines.proofs.NameRuns.{first_named}
 
 nine_digits : (n : ℕ) → n ≤ 999999999 → n < 10 ^ 9
 nine_digits n most = omega arith
@@ -34,18 +32,6 @@ index-right z most = omega arith
 kinds-right : (bulk : Bool) (fits : List Fit) → HasUpTo16Kinds bulk fits → NamesKindsUnlessBulk bulk fits
 kinds-right true fits right = right
 kinds-right false fits right = right.0
-
--- where no two positions have one name, each is the first of its name
-first_named : (ps : List Position) → AllPairs (λ (a b : Position). a.name ≢ b.name) ps → (q : ℕ) → q < length ps → IsNamed ps q
-first_named ps differ q known = record {
-  known = known;
-  first = λ k d within same.
-      let before : k < q = omega (arith, length-take q ps) in
-      let there : slice_get ps q ≡ Some (get_or ps q d) = slice_get-get_or ps q d known in
-      let name : name_at ps q ≡ (get_or ps q d).name = ap (λ o. option_map_or (λ (p : Position). p.name) o []) there in
-      let earlier : get_or (take q ps) k d ≡ get_or ps k d = get_or-take q ps k d before in
-      differ k q d before known (sym (ap (λ (p : Position). p.name) earlier) ∙ same ∙ name);
-}
 
 lateral-spelled : (t : Problem) (lateral : Option Lateral) → ((q : ℕ) → q < length t.hold.positions → IsNamed t.hold.positions q) → All (λ (side : ℕ × Bool). side.0 < length t.hold.positions) (option_map_or (λ (l : Lateral). l.sides) lateral []) → IfSome lateral (λ (l : Lateral). l.most.0 ≤ 999999999) → IfSome lateral (IsSpelledLateral t.hold.positions)
 lateral-spelled t None named known most = tt

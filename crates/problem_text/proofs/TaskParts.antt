@@ -1,8 +1,9 @@
 -- the lines of a task, part by part
-use Rattle.std.proofs.Common.{◌≡◌, ◌≢◌, ℕ, ◌+◌, ◌<◌, ℤ, ◌++◌, ◌∷◌, List, [], map, length, get_or, refl, sym, ◌∙◌, ap, subst, arith, All, Option, Some, None, IfSome, codes, lit<}
+use Rattle.std.proofs.Common.{◌≡◌, ◌≢◌, ℕ, ◌+◌, ◌++◌, ◌∷◌, List, [], map, length, get_or, refl, sym, ◌∙◌, ap, subst, arith, All, Option, Some, None, IfSome, codes}
 use Rattle.std.proofs.lemmas.List.{append_assoc}
 use Rattle.std.proofs.lemmas.List.Elements.{All-nil, All-cons, All-append, All-map, All-weaker}
-use Rattle.mass_units.specs.Spelling.{IsIndex}
+use Rattle.mass_units.specs.declared.Ticks.{Ticks}
+use Rattle.hold_parts.specs.Spellings.{IsName}
 use Rattle.hold_limits.specs.Layout.{Layout}
 use Rattle.hold_limits.specs.Problem.{Problem}
 use Rattle.hold_parts.specs.declared.parts.Position.{Position}
@@ -16,23 +17,23 @@ use Rattle.text_lines.specs.Cuts.{Avoids}
 use Rattle.text_lines.specs.Lines.{text_of}
 use Rattle.text_lines.specs.declared.lines.Lines.{Lines as Point}
 use Rattle.text_lines.proofs.WordLemmas.{plain_word}
+use Rattle.text_lines.proofs.NameRuns.{AreNames}
 use Rattle.text_lines.proofs.TextCuts.{AreLines}
 use Rattle.text_lines.proofs.PartSteps.{IsAny, PartBetween}
-use Rattle.text_lines.proofs.Rests.{Rest, behind, Leads, then, past, stops-at, StartsWithOne, SaysOne, past_one}
+use Rattle.text_lines.proofs.Rests.{Rest, behind, Leads, then, stops-at, StartsWithBlock, past_block, StartsWithOne, past_said}
 use Rattle.text_lines.proofs.RunsOfLines.{StartsWithRun, past_run, IsLast}
 use Rattle.text_lines.proofs.RunOfLines.{section_once}
-use Rattle.text_lines.proofs.OneReading.{IsReadOnce, one_then, run_then, last_then}
+use Rattle.text_lines.proofs.OneReading.{IsReadOnce, block_then, one_then, run_then, last_then}
 use Rattle.problem_text.proofs.SmallerTexts.{IsWithin, Holds, past_into, within_then}
-use Rattle.problem_text.specs.TaskText.{task_lines, position_line, exclude_line, combined_line, cumulative_line, side_line, lateral_line, header_line, lateral_lines, item_line, loose_line, base_line, window_line, ideal_line, IsSpelledPosition, IsSpelledExclude, IsSpelledCombined, IsSpelledCumulative, IsSpelledSide, IsSpelledLateral, IsSpelledItem, IsSpelledLoose, IsSpelled}
+use Rattle.problem_text.specs.TaskText.{task_lines, position_line, exclude_line, combined_line, cumulative_line, side_line, lateral_line, header_line, lateral_lines, item_line, loose_line, IsSpelledPosition, IsSpelledExclude, IsSpelledCombined, IsSpelledCumulative, IsSpelledSide, IsSpelledLateral, IsSpelledItem, IsSpelledLoose, IsSpelled}
 use Rattle.problem_text.specs.Grammar.{version_line, version_of, last_part, loose_part, item_part, lateral_part, cumulative_part, combined_part, limit_part, IsTaskOf}
 use Rattle.problem_text.specs.Parts.{AreIndices, last_lines}
 use Rattle.problem_text.specs.declared.parts.Version.{Version}
 use Rattle.problem_text.specs.declared.parts.Version.TheVariants.{One, Two}
-use Rattle.problem_text.proofs.PositionLemmas.{position_avoids, position_once}
-use Rattle.problem_text.proofs.LimitLemmas.{AreClear, exclude_avoids, combined_avoids, cumulative_avoids, side_avoids, loose_avoids, exclude_once, combined_once, cumulative_once, side_once, loose_once}
-use Rattle.problem_text.proofs.LineLemmas.{lateral_avoids, lateral_once, item_avoids, item_once, base_avoids, base_once, window_avoids, window_once, ideal_avoids, ideal_once}
+use Rattle.problem_text.proofs.PositionLemmas.{positions}
+use Rattle.problem_text.proofs.LineLemmas as kind
+use Rattle.problem_text.proofs.LineLemmas.{Band, base_text, window_text, ideal_text, IsSpelledIndex, IsSpelledBand}
 use Rattle.problem_text.proofs.LineKinds.{positions_end, excludes_end, combined_end, cumulative_end, sides_end, items_end, loose_end}
-use Rattle.text_lines.proofs.SpelledWords.{name_avoids}
 
 abbrev Lines : Type 0
 Lines = List (List ℕ)
@@ -87,7 +88,7 @@ starts_with_version = record {
 
 pub starts_with_positions : (version : Version) → StartsWithRun (from_positions version) position_line IsSpelledPosition IsAny (λ t. t.hold.positions) (λ t. limit_part t.hold.positions t)
 starts_with_positions version = record {
-  kind = record { once = position_once; avoids = position_avoids };
+  kind = positions;
   front = λ xs ys any. tt;
   right = λ t s. s.0.positions;
   allowed = λ t s. tt;
@@ -102,85 +103,70 @@ own_are version ps = record {
   back = λ t s. (t, record { spelled = s.0.0; version_is = s.0.1; positions_are = s.1 }, ap (λ (qs : List Position). limit_part qs t) s.1, refl);
 }
 
-pub to_limits : {l0 l1 : Point} (l2 : Point) (version : Version) {ps : List Position} → SaysOne version_line IsAnyVersion l0 l1 version → PartBetween position_line IsSpelledPosition IsAny l1 l2 ps → Leads tasks l0 (limits version ps) l2
-to_limits {l1 = l1} l2 version {ps = ps} says are =
-    then (past_one starts_with_version says) (then (past_run (starts_with_positions version) l1 l2 are) (past_into (own_are version ps) l2))
+pub to_limits : (l0 l1 l2 : Point) (version : Version) {ps : List Position} → l0.rest.now ≡ version_line version ++ 10 ∷ l1.rest.now → l1.number ≡ l0.number + 1 → PartBetween position_line IsSpelledPosition IsAny l1 l2 ps → Leads tasks l0 (limits version ps) l2
+to_limits l0 l1 l2 version read counted are =
+    then (past_said starts_with_version l0 l1 version (tt, read) counted) (then (past_run (starts_with_positions version) l1 l2 are) (past_into (own_are version _) l2))
 
-pub clear_names : (k : ℕ) (ps : List Position) → k < 45 → All IsSpelledPosition ps → AreClear k ps
-clear_names k ps low s = All-weaker IsSpelledPosition (λ (q : Position). Avoids k q.name) (λ q h. name_avoids k q.name low h.name) ps s
+pub are_names : (ps : List Position) → All IsSpelledPosition ps → AreNames ps
+are_names ps s = All-weaker IsSpelledPosition (λ (q : Position). IsName q.name) (λ q h. h.name) ps s
 
 -- The indices --------------------------------------------------------------------------------------
 
 abbrev pub indices : Rest Indices
 indices = record { Is = AreIndices; lines = last_lines }
 
-abbrev pub window_of : Indices → ℤ × ℤ
-window_of at = (at.window.low.0, at.window.high.0)
+abbrev pub window_of : Indices → Band
+window_of at = (at.window.low, at.window.high)
 
-abbrev pub ideal_of : Indices → ℤ × ℤ
-ideal_of at = (at.ideal.low.0, at.ideal.high.0)
-
-abbrev pub window_text : ℤ × ℤ → List ℕ
-window_text band = window_line band.0 band.1
-
-abbrev pub ideal_text : ℤ × ℤ → List ℕ
-ideal_text band = ideal_line band.0 band.1
-
-abbrev pub IsSpelledBand : ℤ × ℤ → Type 0
-IsSpelledBand band = IsIndex band.0 × IsIndex band.1
+abbrev pub ideal_of : Indices → Band
+ideal_of at = (at.ideal.low, at.ideal.high)
 
 abbrev from_ideal_lines : Indices → Lines
 from_ideal_lines at = ideal_text (ideal_of at) ∷ codes "END" ∷ []
 
-abbrev pub from_window : ℤ → Rest Indices
-from_window base = behind indices (λ at. at.base.0) base (λ at. window_text (window_of at) ∷ from_ideal_lines at)
+abbrev from_window_lines : Indices → Lines
+from_window_lines at = window_text (window_of at) ∷ from_ideal_lines at
 
-abbrev pub from_ideal : ℤ → ℤ × ℤ → Rest Indices
+abbrev pub from_window : Ticks → Rest Indices
+from_window base = behind indices (λ at. at.base) base from_window_lines
+
+abbrev pub from_ideal : Ticks → Band → Rest Indices
 from_ideal base window = behind (from_window base) window_of window from_ideal_lines
 
-abbrev pub from_end : ℤ → ℤ × ℤ → ℤ × ℤ → Rest Indices
+abbrev pub from_end : Ticks → Band → Band → Rest Indices
 from_end base window ideal = behind (from_ideal base window) ideal_of ideal (λ at. codes "END" ∷ [])
 
-pub starts_with_base : StartsWithOne indices base_line IsIndex (λ at. at.base.0) (λ at. window_text (window_of at) ∷ from_ideal_lines at)
-starts_with_base = record { kind = record { once = λ a b s t e. base_once a b e; avoids = λ a s. base_avoids a }; right = λ at s. s.base; are = λ at s. refl }
+pub starts_with_base : StartsWithOne indices base_text IsSpelledIndex (λ at. at.base) from_window_lines
+starts_with_base = record { kind = kind.base; right = λ at s. s.base; are = λ at s. refl }
 
-pub starts_with_window : (base : ℤ) → StartsWithOne (from_window base) window_text IsSpelledBand window_of from_ideal_lines
-starts_with_window base = record {
-  kind = record { once = λ a b s t e. let ends = window_once a.0 a.1 b.0 b.1 e in λ i. (ends.0 i, ends.1 i); avoids = λ a s. window_avoids a.0 a.1 };
-  right = λ at s. (s.0.low, s.0.high);
-  are = λ at s. refl;
-}
+pub starts_with_window : (base : Ticks) → StartsWithOne (from_window base) window_text IsSpelledBand window_of from_ideal_lines
+starts_with_window base = record { kind = kind.window; right = λ at s. (s.0.low, s.0.high); are = λ at s. refl }
 
-pub starts_with_ideal : (base : ℤ) (window : ℤ × ℤ) → StartsWithOne (from_ideal base window) ideal_text IsSpelledBand ideal_of (λ at. codes "END" ∷ [])
-starts_with_ideal base window = record {
-  kind = record { once = λ a b s t e. let ends = ideal_once a.0 a.1 b.0 b.1 e in λ i. (ends.0 i, ends.1 i); avoids = λ a s. ideal_avoids a.0 a.1 };
-  right = λ at s. (s.0.0.ideal_low, s.0.0.ideal_high);
-  are = λ at s. refl;
-}
+pub starts_with_ideal : (base : Ticks) (window : Band) → StartsWithOne (from_ideal base window) ideal_text IsSpelledBand ideal_of (λ at. codes "END" ∷ [])
+starts_with_ideal base window = record { kind = kind.ideal; right = λ at s. (s.0.0.ideal_low, s.0.0.ideal_high); are = λ at s. refl }
 
-pub ends : (base : ℤ) (window ideal : ℤ × ℤ) → IsLast (from_end base window ideal) (codes "END")
+pub ends : (base : Ticks) (window ideal : Band) → IsLast (from_end base window ideal) (codes "END")
 ends base window ideal = record {
   plain = plain_word 10 (codes "END") refl;
   known = λ a b s t.
-      let bases = s.0.0.1 ∙ sym t.0.0.1 in
       let windows = s.0.1 ∙ sym t.0.1 in
       let ideals = s.1 ∙ sym t.1 in
       λ i. record {
-        base = record { 0 = bases i };
-        window = record { low = record { 0 = (windows i).0 }; high = record { 0 = (windows i).1 } };
-        ideal = record { low = record { 0 = (ideals i).0 }; high = record { 0 = (ideals i).1 } };
+        base = (s.0.0.1 ∙ sym t.0.0.1) i;
+        window = record { low = (windows i).0; high = (windows i).1 };
+        ideal = record { low = (ideals i).0; high = (ideals i).1 };
       };
   are = λ at s. refl;
 }
 
-abbrev pub indices_with : ℤ → ℤ × ℤ → ℤ × ℤ → Indices
+abbrev pub indices_with : Ticks → Band → Band → Indices
 indices_with base window ideal = record {
-  base = record { 0 = base };
-  window = record { low = record { 0 = window.0 }; high = record { 0 = window.1 } };
-  ideal = record { low = record { 0 = ideal.0 }; high = record { 0 = ideal.1 } };
+  base = base;
+  window = record { low = window.0; high = window.1 };
+  ideal = record { low = ideal.0; high = ideal.1 };
 }
 
-pub are_spelled : (base : ℤ) (window ideal : ℤ × ℤ) → IsIndex base → IsSpelledBand window → IsSpelledBand ideal → AreIndices (indices_with base window ideal)
+pub are_spelled : (base : Ticks) (window ideal : Band) → IsSpelledIndex base → IsSpelledBand window → IsSpelledBand ideal → AreIndices (indices_with base window ideal)
 are_spelled base window ideal b w i = record { base = b; low = w.0; high = w.1; ideal_low = i.0; ideal_high = i.1 }
 
 indices_once : IsReadOnce indices
@@ -213,30 +199,33 @@ over : {X : Type 0} {version : Version} {ps : List Position} (IsRight : List Pos
 over IsRight xs s right = subst (λ (qs : List Position). All (IsRight qs) xs) s.positions_are right
 
 -- a lateral limit, of which the version says whether there is one, is read in one way only
-lateral_lines_once : (ps : List Position) → AreClear 32 ps → (a b : Option Lateral) (lines other : Lines) → version_of a ≡ version_of b → IfSome a (IsSpelledLateral ps) → IfSome b (IsSpelledLateral ps) → lateral_lines ps a ++ lines ≡ lateral_lines ps b ++ other → (a ≡ b) × (lines ≡ other)
-lateral_lines_once ps clear None None lines other v s t e = (refl, e)
-lateral_lines_once ps clear None (Some b) lines other v s t e = absurd (cc)
-lateral_lines_once ps clear (Some a) None lines other v s t e = absurd (cc)
-lateral_lines_once ps clear (Some a) (Some b) lines other v s t e =
+lateral_lines_once : (ps : List Position) → AreNames ps → (a b : Option Lateral) (lines other : Lines) → version_of a ≡ version_of b → IfSome a (IsSpelledLateral ps) → IfSome b (IsSpelledLateral ps) → lateral_lines ps a ++ lines ≡ lateral_lines ps b ++ other → (a ≡ b) × (lines ≡ other)
+lateral_lines_once ps names None None lines other v s t e = (refl, e)
+lateral_lines_once ps names None (Some b) lines other v s t e = absurd (cc)
+lateral_lines_once ps names (Some a) None lines other v s t e = absurd (cc)
+lateral_lines_once ps names (Some a) (Some b) lines other v s t e =
     let whole : map (side_line ps) a.sides ++ (lateral_line a.most.0 ∷ lines) ≡ map (side_line ps) b.sides ++ (lateral_line b.most.0 ∷ other) =
     sym (append_assoc (map (side_line ps) a.sides) (lateral_line a.most.0 ∷ []) lines) ∙ e ∙ append_assoc (map (side_line ps) b.sides) (lateral_line b.most.0 ∷ []) other in
-    let sides = section_once (side_line ps) (IsSpelledSide ps) (side_once ps clear) a.sides b.sides (lateral_line a.most.0 ∷ lines) (lateral_line b.most.0 ∷ other) s.sides t.sides
+    let sides = section_once (side_line ps) (IsSpelledSide ps) (kind.sides ps names).once a.sides b.sides (lateral_line a.most.0 ∷ lines) (lateral_line b.most.0 ∷ other) s.sides t.sides
     (stops-at (side_line ps) (IsSpelledSide ps) (lateral_line a.most.0 ∷ lines) (sides_end ps a.most.0 lines)) (stops-at (side_line ps) (IsSpelledSide ps) (lateral_line b.most.0 ∷ other) (sides_end ps b.most.0 other)) whole in
     let heads : lateral_line a.most.0 ≡ lateral_line b.most.0 = cc (sides.1) in
     let tails : lines ≡ other = cc (sides.1) in
-    let most = lateral_once a.most.0 b.most.0 heads in
-    (λ i. Some (record { most = record { 0 = most i }; sides = sides.0 i }), tails)
+    let most = kind.lateral.once a.most b.most s.most t.most heads in
+    (λ i. Some (record { most = most i; sides = sides.0 i }), tails)
 
-lateral_lines-are : (ps : List Position) → AreClear 10 ps → (lateral : Option Lateral) → IfSome lateral (IsSpelledLateral ps) → AreLines (lateral_lines ps lateral)
-lateral_lines-are ps clear None s = All-nil (Avoids 10)
-lateral_lines-are ps clear (Some lateral) s =
-    let sides : AreLines (map (side_line ps) lateral.sides) = All-map (Avoids 10) (side_line ps) lateral.sides (All-weaker (IsSpelledSide ps) (λ x. Avoids 10 (side_line ps x)) (side_avoids ps clear) lateral.sides s.sides) in
-    All-append (Avoids 10) (map (side_line ps) lateral.sides) (lateral_line lateral.most.0 ∷ []) sides (All-cons (Avoids 10) (lateral_line lateral.most.0) [] (lateral_avoids lateral.most.0) (All-nil (Avoids 10)))
+lateral_lines-are : (ps : List Position) → AreNames ps → (lateral : Option Lateral) → IfSome lateral (IsSpelledLateral ps) → AreLines (lateral_lines ps lateral)
+lateral_lines-are ps names None s = All-nil (Avoids 10)
+lateral_lines-are ps names (Some lateral) s =
+    let sides : AreLines (map (side_line ps) lateral.sides) = All-map (Avoids 10) (side_line ps) lateral.sides (All-weaker (IsSpelledSide ps) (λ x. Avoids 10 (side_line ps x)) (kind.sides ps names).avoids lateral.sides s.sides) in
+    All-append (Avoids 10) (map (side_line ps) lateral.sides) (lateral_line lateral.most.0 ∷ []) sides (All-cons (Avoids 10) (lateral_line lateral.most.0) [] (kind.lateral.avoids lateral.most s.most) (All-nil (Avoids 10)))
+
+-- a lateral limit in its spelling, where the version has one
+abbrev pub IsSpelledFor : Version → List Position → Option Lateral → Type 0
+IsSpelledFor version ps lateral = (version_of lateral ≡ version) × IfSome lateral (IsSpelledLateral ps)
 
 -- the lateral limit in the lines between two points
 pub record SaysLateral (version : Version) (ps : List Position) (here there : Point) (said : Option Lateral) : Type 0 where
-  pub version_is : version_of said ≡ version
-  pub right : IfSome said (IsSpelledLateral ps)
+  pub right : IsSpelledFor version ps said
   pub read : here.rest.now ≡ text_of (lateral_lines ps said) ++ there.rest.now
   pub counted : there.number ≡ here.number + length (lateral_lines ps said)
 
@@ -264,15 +253,12 @@ module _ (version : Version) (ps : List Position) where
   lateral_on = record { Is = IsTaskOf version ps; lines = lateral_part ps }
 
 module _ (version : Version) (ps : List Position) (spelled : All IsSpelledPosition ps) where
-  spaces : AreClear 32 ps
-  spaces = clear_names 32 ps (lit< tt) spelled
-
-  feeds : AreClear 10 ps
-  feeds = clear_names 10 ps (lit< tt) spelled
+  names : AreNames ps
+  names = are_names ps spelled
 
   pub starts_with_excludes : StartsWithRun (limits version ps) (exclude_line ps) (IsSpelledExclude ps) IsAny (λ t. t.hold.excludes) (combined_part ps)
   starts_with_excludes = record {
-    kind = record { once = exclude_once ps spaces; avoids = exclude_avoids ps feeds };
+    kind = kind.excludes ps names;
     front = λ xs ys any. tt;
     right = λ t s. over IsSpelledExclude t.hold.excludes s s.spelled.excludes;
     allowed = λ t s. tt;
@@ -282,7 +268,7 @@ module _ (version : Version) (ps : List Position) (spelled : All IsSpelledPositi
 
   pub starts_with_combined : (excludes : List (ℕ × ℕ)) → StartsWithRun (from_combined version ps excludes) (combined_line ps) (IsSpelledCombined ps) IsAny (λ t. t.hold.combined) (cumulative_part ps)
   starts_with_combined excludes = record {
-    kind = record { once = combined_once ps spaces; avoids = combined_avoids ps feeds };
+    kind = kind.combined ps names;
     front = λ xs ys any. tt;
     right = λ t s. over IsSpelledCombined t.hold.combined s.0 s.0.spelled.combined;
     allowed = λ t s. tt;
@@ -292,7 +278,7 @@ module _ (version : Version) (ps : List Position) (spelled : All IsSpelledPositi
 
   pub starts_with_cumulative : (excludes : List (ℕ × ℕ)) (combined : List Combined) → StartsWithRun (from_cumulative version ps excludes combined) (cumulative_line ps) (IsSpelledCumulative ps) IsAny (λ t. t.hold.cumulative) (lateral_part ps)
   starts_with_cumulative excludes combined = record {
-    kind = record { once = cumulative_once ps spaces; avoids = cumulative_avoids ps feeds };
+    kind = kind.cumulative ps names;
     front = λ xs ys any. tt;
     right = λ t s. over IsSpelledCumulative t.hold.cumulative s.0.0 s.0.0.spelled.cumulative;
     allowed = λ t s. tt;
@@ -304,18 +290,21 @@ module _ (version : Version) (ps : List Position) (spelled : All IsSpelledPositi
     lateral_right : (t : Problem) → IsTaskOf version ps t → IfSome t.hold.lateral (IsSpelledLateral ps)
     lateral_right t s = subst (λ (qs : List Position). IfSome t.hold.lateral (IsSpelledLateral qs)) s.positions_are s.spelled.lateral
 
+    starts_with_lateral : StartsWithBlock (from_lateral version ps excludes combined cumulative) (lateral_lines ps) (IsSpelledFor version ps) (λ t. t.hold.lateral) (item_part ps)
+    starts_with_lateral = record {
+      once = λ a b lines other p q e. lateral_lines_once ps names a b lines other (p.0 ∙ sym q.0) p.1 q.1 e;
+      clear = λ lateral p. lateral_lines-are ps names lateral p.1;
+      right = λ t s. (s.0.0.0.version_is, lateral_right t s.0.0.0);
+      are = λ t s. refl;
+    }
+
     pub past_lateral : (here there : Point) (said : Option Lateral) → SaysLateral version ps here there said → Leads (from_lateral version ps excludes combined cumulative) here (from_items version ps excludes combined cumulative said) there
-    past_lateral here there said says =
-        past (from_lateral version ps excludes combined cumulative) (from_items version ps excludes combined cumulative said) here there (lateral_lines ps said) says.read says.counted
-        (λ t s. (s.0, ap (λ (l : Option Lateral). lateral_lines ps l ++ item_part ps t) s.1))
-        (λ t more first s e.
-        let same = lateral_lines_once ps spaces t.hold.lateral said (item_part ps t) more (s.0.0.0.version_is ∙ sym says.version_is) (lateral_right t s.0.0.0) says.right e in
-        ((s, same.0), sym same.1))
+    past_lateral here there said says = past_block starts_with_lateral here there said says.right says.read says.counted
 
     module _ (lateral : Option Lateral) where
       pub starts_with_items : StartsWithRun (from_items version ps excludes combined cumulative lateral) item_line IsSpelledItem IsAny (λ t. t.items) (loose_part ps)
       starts_with_items = record {
-        kind = record { once = item_once; avoids = item_avoids };
+        kind = kind.items;
         front = λ xs ys any. tt;
         right = λ t s. s.0.0.0.0.spelled.items;
         allowed = λ t s. tt;
@@ -325,7 +314,7 @@ module _ (version : Version) (ps : List Position) (spelled : All IsSpelledPositi
 
       pub starts_with_loose : (items : List Item) → StartsWithRun (from_loose version ps excludes combined cumulative lateral items) (loose_line ps) (IsSpelledLoose ps) IsAny (λ t. t.loose) last_part
       starts_with_loose items = record {
-        kind = record { once = loose_once ps spaces; avoids = loose_avoids ps feeds };
+        kind = kind.loads ps names;
         front = λ xs ys any. tt;
         right = λ t s. over IsSpelledLoose t.loose s.0.0.0.0.0 s.0.0.0.0.0.spelled.loose;
         allowed = λ t s. tt;
@@ -366,13 +355,7 @@ module _ (version : Version) (ps : List Position) (spelled : All IsSpelledPositi
       items_then = run_then starts_with_items (λ items. run_then (starts_with_loose items) (λ loose. within_then (are_indices items loose) indices_once))
 
     lateral_then : IsReadOnce (from_lateral version ps excludes combined cumulative)
-    lateral_then = record {
-      once = λ t u more p q e.
-          let whole = sym (append_assoc (lateral_lines ps t.hold.lateral) (item_part ps t) more) ∙ e in
-          let same = lateral_lines_once ps spaces t.hold.lateral u.hold.lateral (item_part ps t ++ more) (item_part ps u) (p.0.0.0.version_is ∙ sym q.0.0.0.version_is) (lateral_right t p.0.0.0) (lateral_right u q.0.0.0) whole in
-          (items_then u.hold.lateral).once t u more (p, same.0) (q, refl) same.1;
-      clear = λ t p. All-append (Avoids 10) (lateral_lines ps t.hold.lateral) (item_part ps t) (lateral_lines-are ps feeds t.hold.lateral (lateral_right t p.0.0.0)) ((items_then t.hold.lateral).clear t (p, refl));
-    }
+    lateral_then = block_then starts_with_lateral items_then
 
   limits_once : IsReadOnce (limits version ps)
   limits_once = run_then starts_with_excludes (λ excludes. run_then (starts_with_combined excludes) (λ combined. run_then (starts_with_cumulative excludes combined) (λ cumulative. lateral_then excludes combined cumulative)))

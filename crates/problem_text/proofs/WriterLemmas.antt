@@ -1,5 +1,5 @@
 -- texts that grow by one entry after another
-use Rattle.std.proofs.Common.{◌≡◌, ℕ, ◌+◌, Bool, Some, List, [], ◌∷◌, ◌++◌, map, ap, sym, ◌∙◌}
+use Rattle.std.proofs.Common.{◌≡◌, ℕ, Bool, Some, List, [], ◌∷◌, ◌++◌, map, ap, sym, ◌∙◌}
 use Rattle.std.proofs.lemmas.List.{append_assoc}
 use Rattle.hold_parts.specs.declared.parts.Position.{Position}
 use Rattle.hold_parts.specs.declared.parts.Lateral.{Lateral}
@@ -22,14 +22,10 @@ lateral_written ps l sides old middle new same first second =
 regroup : (old a b : List ℕ) (n m : List ℕ) → n ≡ old ++ a → m ≡ n ++ b → m ≡ old ++ (a ++ b)
 regroup old a b n m first second = second ∙ ap (λ t. t ++ b) first ∙ append_assoc old a b
 
-pub built-3 : (old a b c d : List ℕ) (n1 n2 n3 n4 : List ℕ) → n1 ≡ old ++ a → n2 ≡ n1 ++ b → n3 ≡ n2 ++ c → n4 ≡ n3 ++ d → n4 ≡ old ++ ((a ++ (b ++ c)) ++ d)
-built-3 old a b c d n1 n2 n3 n4 e1 e2 e3 e4 = regroup old (a ++ (b ++ c)) d n3 n4 (regroup old a (b ++ c) n1 n3 e1 (regroup n1 b c n2 n3 e2 e3)) e4
+pub built-3 : (old a b c : List ℕ) (n1 n2 n3 : List ℕ) → n1 ≡ old ++ a → n2 ≡ n1 ++ b → n3 ≡ n2 ++ c → n3 ≡ old ++ (a ++ (b ++ c))
+built-3 old a b c n1 n2 n3 e1 e2 e3 = regroup old a (b ++ c) n1 n3 e1 (regroup n1 b c n2 n3 e2 e3)
 
-pub built-5 : (old a b c d e f : List ℕ) (n1 n2 n3 n4 n5 n6 : List ℕ) → n1 ≡ old ++ a → n2 ≡ n1 ++ b → n3 ≡ n2 ++ c → n4 ≡ n3 ++ d → n5 ≡ n4 ++ e → n6 ≡ n5 ++ f
-    → n6 ≡ old ++ ((a ++ (b ++ (c ++ (d ++ e)))) ++ f)
-built-5 old a b c d e f n1 n2 n3 n4 n5 n6 e1 e2 e3 e4 e5 e6 =
-    regroup old (a ++ (b ++ (c ++ (d ++ e)))) f n5 n6
-    (regroup old a (b ++ (c ++ (d ++ e))) n1 n5 e1
-    (regroup n1 b (c ++ (d ++ e)) n2 n5 e2
-    (regroup n2 c (d ++ e) n3 n5 e3 (regroup n3 d e n4 n5 e4 e5))))
-    e6
+pub built-5 : (old a b c d e : List ℕ) (n1 n2 n3 n4 n5 : List ℕ) → n1 ≡ old ++ a → n2 ≡ n1 ++ b → n3 ≡ n2 ++ c → n4 ≡ n3 ++ d → n5 ≡ n4 ++ e → n5 ≡ old ++ (a ++ (b ++ (c ++ (d ++ e))))
+built-5 old a b c d e n1 n2 n3 n4 n5 e1 e2 e3 e4 e5 =
+    regroup old a (b ++ (c ++ (d ++ e))) n1 n5 e1
+    (regroup n1 b (c ++ (d ++ e)) n2 n5 e2 (built-3 n2 c d e n3 n4 n5 e3 e4 e5))

@@ -1,9 +1,7 @@
 -- what the steps of the reader return
-use Rattle.std.specs.Prelude.{◌≡◌, ℕ, ℤ, List, ◌∷◌, ◌++◌, Some, None}
-use Rattle.mass_units.specs.Spelling.{index_text, IsIndex, IsNumber}
+use Rattle.std.specs.Prelude.{◌≡◌, ℕ, List, Some, None}
 use Rattle.hold_limits.specs.Problem.{Problem}
 use Rattle.hold_limits.specs.Faults.{hold_fault, task_fault}
-use Rattle.problem_text.specs.TaskText.{lateral_line}
 use Rattle.problem_text.specs.Grammar.{version_line}
 use Rattle.problem_text.specs.declared.parts.Version.{Version}
 use Rattle.text_lines.specs.declared.fault.LineFault.{LineFault}
@@ -14,19 +12,6 @@ use Rattle.problem_text.specs.declared.fault.TextFault.TheVariants.{Line, NoEnd,
 -- the line is one of the two with which a task may begin
 abbrev pub IsVersionLine : List ℕ → Type 0
 IsVersionLine line = (version : Version) × (line ≡ version_line version)
-
--- the line has the greatest lateral difference
-abbrev pub IsLateralLine : List ℕ → Type 0
-IsLateralLine line = (most : ℕ) × IsNumber most × (line ≡ lateral_line most)
-
--- the line has one index after the keyword and its space
-abbrev pub IsIndexLine : List ℕ → List ℕ → Type 0
-IsIndexLine keyword line = (index : ℤ) × IsIndex index × (line ≡ keyword ++ index_text index)
-
--- the line has two indices after the keyword and its space
-abbrev pub IsBandLine : List ℕ → List ℕ → Type 0
-IsBandLine keyword line =
-    (low : ℤ) × (high : ℤ) × IsIndex low × IsIndex high × (line ≡ keyword ++ (index_text low ++ 32 ∷ index_text high))
 
 -- a fault of the lines, as a fault of the text
 abbrev pub text_fault : LineFault → TextFault

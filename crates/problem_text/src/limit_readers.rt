@@ -6,9 +6,9 @@ ghost use Rattle.hold_parts.specs.declared.parts.Combined.{Combined};
 ghost use Rattle.hold_parts.specs.declared.parts.Cumulative.{Cumulative};
 ghost use Rattle.hold_parts.specs.declared.parts.Loose.{Loose};
 ghost use Rattle.text_lines.specs.Cuts.{IsCutAt};
-ghost use Rattle.problem_text.specs.TaskText.{end_word, side_word, exclude_line, combined_line, cumulative_line, side_line, loose_line, IsSpelledExclude, IsSpelledCombined, IsSpelledCumulative, IsSpelledSide, IsSpelledLoose};
+ghost use Rattle.problem_text.specs.TaskText.{combined_line, cumulative_line, side_line, loose_line, IsSpelledCombined, IsSpelledCumulative, IsSpelledSide, IsSpelledLoose};
 ghost use Rattle.text_lines.specs.Names.{IsNamed};
-ghost use Rattle.problem_text.specs.PositionNumbers.{keep_pair, keep_combined, keep_cumulative, keep_side, keep_loose};
+ghost use Rattle.problem_text.specs.PositionNumbers.{keep_combined, keep_cumulative, keep_side, keep_loose};
 ghost use Rattle.text_lines.specs.Names.{byte_of};
 ghost use Rattle.text_lines.specs.WordRuns.{run_text, name_text};
 ghost use Rattle.text_lines.specs.Sections.{Says};
@@ -17,18 +17,10 @@ use base_words::NoMemory;
 use hold_limits::{Combined, Cumulative, Loose, Places};
 use mass_units::{Kg, read_number};
 use std::alloc::Global;
-use text_lines::{Names, after_prefix, cut, next_position, split_once};
-
-/// The two positions of a line `exclude NAME NAME`.
-pub fn read_exclude(names: &Names<'_>, line: &[u8]) -> Option<(u8, u8)>
-    ensures found { IfSome result (Says (exclude_line names.now.positions.now)
-        (IsSpelledExclude names.now.positions.now) keep_pair line.now) }
-    ensures none { IfNone result ((pair : ℕ × ℕ) → IsSpelledExclude names.now.positions.now pair
-        → line.now ≢ exclude_line names.now.positions.now pair) }
-{
-    let (first, second) = split_once(b' ', after_prefix(b"exclude ", line)?)?;
-    Some((names.number_of(first)?, names.number_of(second)?))
-}
+use text_lines::{
+    Last, MassWord, Names, PositionWord, Then, WordReader, after_prefix, cut, next_position,
+    read_said,
+};
 
 /// The limit of a line `combined MOST NAME NAME ..`.
 pub fn read_combined(
@@ -100,28 +92,13 @@ pub fn read_cumulative(names: &Names<'_>, line: &[u8]) -> Option<Cumulative>
     ensures none { IfNone result ((limit : Cumulative)
         → IsSpelledCumulative names.now.positions.now limit → line.now ≢ cumulative_line names.now.positions.now limit) }
 {
-    let (end, rest) = split_once(b' ', after_prefix(b"cumulative ", line)?)?;
-    let forward = read_end(end)?;
-    let (name, most) = split_once(b' ', rest)?;
-    let place = names.number_of(name)?;
-    let most = Kg(read_number(most)?);
+    let fields = Then(EndWord, Then(PositionWord(names), Last(MassWord)));
+    let (forward, (place, most)) = read_said(b"cumulative ", &fields, line)?;
     Some(Cumulative {
         forward,
         place,
         most,
     })
-}
-
-/// Whether the word is `forward`. None where it is neither `forward` nor `aft`.
-fn read_end(word: &[u8]) -> Option<bool>
-    ensures found { IfSome result (λ forward. word.now ≡ end_word forward) }
-    ensures none { IfNone result ((forward : Bool) → word.now ≢ end_word forward) }
-{
-    match word {
-        b"forward" => Some(true),
-        b"aft" => Some(false),
-        _ => None,
-    }
 }
 
 /// The position of a line `side NAME left` or `side NAME right`, and whether it is on the right.
@@ -131,20 +108,7 @@ pub fn read_side(names: &Names<'_>, line: &[u8]) -> Option<(u8, bool)>
     ensures none { IfNone result ((side : ℕ × Bool)
         → IsSpelledSide names.now.positions.now side → line.now ≢ side_line names.now.positions.now side) }
 {
-    let (name, side) = split_once(b' ', after_prefix(b"side ", line)?)?;
-    Some((names.number_of(name)?, is_right(side)?))
-}
-
-/// Whether the word is `right`. None where it is neither `right` nor `left`.
-fn is_right(word: &[u8]) -> Option<bool>
-    ensures found { IfSome result (λ right. word.now ≡ side_word right) }
-    ensures none { IfNone result ((right : Bool) → word.now ≢ side_word right) }
-{
-    match word {
-        b"right" => Some(true),
-        b"left" => Some(false),
-        _ => None,
-    }
+    read_said(b"side ", &Then(PositionWord(names), Last(SideWord)), line)
 }
 
 /// The load of a line `loose NAME MASS`.
@@ -154,8 +118,64 @@ pub fn read_loose(names: &Names<'_>, line: &[u8]) -> Option<Loose>
     ensures none { IfNone result ((load : Loose)
         → IsSpelledLoose names.now.positions.now load → line.now ≢ loose_line names.now.positions.now load) }
 {
-    let (name, mass) = split_once(b' ', after_prefix(b"loose ", line)?)?;
-    let position = names.number_of(name)?;
-    let mass = Kg(read_number(mass)?);
+    let (position, mass) = read_said(b"loose ", &Then(PositionWord(names), Last(MassWord)), line)?;
     Some(Loose { position, mass })
+}
+
+/// `forward` or `aft`: whether it is `forward`.
+#[derive(Clone, Copy)]
+struct EndWord;
+
+/// `right` or `left`: whether it is `right`.
+#[derive(Clone, Copy)]
+struct SideWord;
+
+impl WordReader for EndWord {
+    ghost use Rattle.std.specs.Prelude.{Bool, refl};
+    ghost use Rattle.std.proofs.Common.{lit<};
+    ghost use Rattle.text_lines.proofs.FieldLemmas.{two_words};
+    ghost use Rattle.problem_text.specs.TaskText.{end_word};
+
+    type Value = bool;
+
+    ghost text = { λ _. end_word };
+
+    ghost spelled = { λ _ (_ : Bool). Unit {0} };
+
+    ghost keep = { λ _ forward. forward };
+
+    fn read(&self, word: &[u8]) -> Option<bool> {
+        match word {
+            b"forward" => Some(true),
+            b"aft" => Some(false),
+            _ => None,
+        }
+    }
+
+    ghost plain = { λ _. (two_words end_word refl refl refl).avoids 32 (lit< tt) };
+}
+
+impl WordReader for SideWord {
+    ghost use Rattle.std.specs.Prelude.{Bool, refl};
+    ghost use Rattle.std.proofs.Common.{lit<};
+    ghost use Rattle.text_lines.proofs.FieldLemmas.{two_words};
+    ghost use Rattle.problem_text.specs.TaskText.{side_word};
+
+    type Value = bool;
+
+    ghost text = { λ _. side_word };
+
+    ghost spelled = { λ _ (_ : Bool). Unit {0} };
+
+    ghost keep = { λ _ right. right };
+
+    fn read(&self, word: &[u8]) -> Option<bool> {
+        match word {
+            b"right" => Some(true),
+            b"left" => Some(false),
+            _ => None,
+        }
+    }
+
+    ghost plain = { λ _. (two_words side_word refl refl refl).avoids 32 (lit< tt) };
 }

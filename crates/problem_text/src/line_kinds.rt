@@ -1,12 +1,12 @@
 //! The kinds of lines that a task may have any number of.
 
-use crate::limit_readers::{read_combined, read_cumulative, read_exclude, read_loose, read_side};
+use crate::limit_readers::{read_combined, read_cumulative, read_loose, read_side};
 use crate::line_readers::read_item;
 use crate::position_reader::read_position;
 use base_words::NoMemory;
 use hold_limits::{Combined, Cumulative, Item, Loose, Position};
 use std::alloc::Global;
-use text_lines::{LineReader, Names};
+use text_lines::{Last, LineReader, Names, PositionWord, Then, read_said};
 
 /// `position NAME COMPARTMENT INFLUENCE KIND MOST KIND MOST ..`, or `bulk NAME COMPARTMENT INFLUENCE`.
 #[derive(Clone, Copy)]
@@ -65,7 +65,11 @@ impl LineReader for ExcludeLines<'_, '_> {
     ghost keep = { λ _. keep_pair };
 
     fn read(&self, _alloc: Global, line: &[u8]) -> Result<Option<(u8, u8)>, NoMemory> {
-        Ok(read_exclude(self.0, line))
+        Ok(read_said(
+            b"exclude ",
+            &Then(PositionWord(self.0), Last(PositionWord(self.0))),
+            line,
+        ))
     }
 }
 

@@ -1,17 +1,15 @@
-//! Lines of a task, appended to a text.
+//! Writers of the lines of a task.
 
 ghost use Rattle.std.specs.Prelude.{◌≡◌, [], ◌∷◌, ◌++◌, OnOk};
 ghost use Rattle.mass_units.specs.Spelling.{number_text, signed_text, index_text};
-ghost use Rattle.hold_parts.specs.Spellings.{IsName, IsUldId};
-ghost use Rattle.problem_text.specs.TaskText.{position_word, end_word, side_word, position_line, exclude_line, combined_line, cumulative_line, side_line, lateral_line, item_line, loose_line};
+ghost use Rattle.problem_text.specs.TaskText.{position_word, end_word, side_word, lateral_line};
 ghost use Rattle.text_lines.specs.Lines.{line_of};
-ghost use Rattle.problem_text.specs.WordRuns.{fit_text};
-ghost use Rattle.text_lines.specs.WordRuns.{run_text, name_text};
 
 use base_words::NoMemory;
 use hold_limits::{Combined, Cumulative, Fit, Hold, Item, Loose, Position};
 use mass_units::{Kg, Ticks};
 use telex::Builder;
+use text_lines::{EntryWriter, NamesOf, write_run};
 
 /// The first word of a position's line.
 fn word_of_position(bulk: bool) -> &'static [u8]
@@ -67,93 +65,169 @@ fn push_index(out: &mut Builder, index: Ticks) -> Result<(), NoMemory>
     out.index(index)
 }
 
-/// Appends a kind with its greatest mass, each after a space.
-fn push_fit(out: &mut Builder, fit: &Fit) -> Result<(), NoMemory>
-    ensures { OnOk result (out.new ≡ out.old ++ fit_text fit.now) }
-{
-    out.word(fit.kind.as_slice())?;
-    push_mass(out, fit.most)
-}
+/// Kinds with their greatest masses.
+#[derive(Clone, Copy)]
+struct Fits;
 
-/// Appends the kinds of a position with their greatest masses.
-fn push_fits(out: &mut Builder, fits: &[Fit]) -> Result<(), NoMemory>
-    ensures { OnOk result (out.new ≡ out.old ++ run_text fit_text fits.now) }
-{
-    for fit in fits {
-        push_fit(out, fit)?;
+/// Positions.
+#[derive(Clone, Copy)]
+pub struct Positions;
+
+/// Excluding pairs of positions of the hold.
+#[derive(Clone, Copy)]
+pub struct Excludes<'a>(pub &'a Hold);
+
+/// Combined limits of the hold.
+#[derive(Clone, Copy)]
+pub struct AllCombined<'a>(pub &'a Hold);
+
+/// Cumulative limits of the hold.
+#[derive(Clone, Copy)]
+pub struct AllCumulative<'a>(pub &'a Hold);
+
+/// Sides of positions of the hold.
+#[derive(Clone, Copy)]
+pub struct Sides<'a>(pub &'a Hold);
+
+/// Containers.
+#[derive(Clone, Copy)]
+pub struct Items;
+
+/// Loose loads in positions of the hold.
+#[derive(Clone, Copy)]
+pub struct AllLoose<'a>(pub &'a Hold);
+
+impl EntryWriter for Fits {
+    ghost use Rattle.problem_text.specs.WordRuns.{fit_text};
+
+    type Entry = Fit;
+
+    ghost text = { λ _. fit_text };
+
+    ghost spelled = { λ _ _. Unit {0} };
+
+    fn write(&self, fit: &Fit, out: &mut Builder) -> Result<(), NoMemory> {
+        out.word(fit.kind.as_slice())?;
+        push_mass(out, fit.most)
     }
-    Ok(())
 }
 
-/// Appends the line of a position.
-pub fn push_position(out: &mut Builder, position: &Position) -> Result<(), NoMemory>
-    ensures written { OnOk result
-        (out.new ≡ out.old ++ (position_line position.now ++ 10 ∷ [])) }
-    ensures named { IsName position.now.name }
-{
-    let name = position.name.bytes();
-    out.text(word_of_position(position.bulk))?;
-    out.word(name)?;
-    push_number(out, position.compartment)?;
-    push_influence(out, position)?;
-    push_fits(out, position.fits.as_slice())?;
-    out.end_line()
-}
+impl EntryWriter for Positions {
+    ghost use Rattle.hold_parts.specs.Spellings.{IsName};
+    ghost use Rattle.problem_text.specs.TaskText.{position_line};
 
-/// Appends the line of an excluding pair.
-pub fn push_exclude(out: &mut Builder, hold: &Hold, pair: (u8, u8)) -> Result<(), NoMemory>
-    ensures { OnOk result
-        (out.new ≡ out.old ++ (exclude_line hold.now.positions pair ++ 10 ∷ [])) }
-{
-    out.text(b"exclude")?;
-    out.word(hold.name_at(pair.0))?;
-    out.word(hold.name_at(pair.1))?;
-    out.end_line()
-}
+    type Entry = Position;
 
-/// Appends the names of positions.
-fn push_names(out: &mut Builder, hold: &Hold, numbers: &[u8]) -> Result<(), NoMemory>
-    ensures { OnOk result
-        (out.new ≡ out.old ++ run_text (name_text hold.now.positions) numbers.now) }
-{
-    for number in numbers {
-        out.word(hold.name_at(*number))?;
+    ghost text = { λ _. position_line };
+
+    ghost spelled = { λ _ position. IsName position.name };
+
+    fn write(&self, position: &Position, out: &mut Builder) -> Result<(), NoMemory> {
+        let name = position.name.bytes();
+        out.text(word_of_position(position.bulk))?;
+        out.word(name)?;
+        push_number(out, position.compartment)?;
+        push_influence(out, position)?;
+        write_run(&Fits, position.fits.as_slice(), out)
     }
-    Ok(())
 }
 
-/// Appends the line of a combined limit.
-pub fn push_combined(out: &mut Builder, hold: &Hold, limit: &Combined) -> Result<(), NoMemory>
-    ensures { OnOk result
-        (out.new ≡ out.old ++ (combined_line hold.now.positions limit.now ++ 10 ∷ [])) }
-{
-    out.text(b"combined")?;
-    push_mass(out, limit.most)?;
-    push_names(out, hold, limit.places.as_slice())?;
-    out.end_line()
+impl EntryWriter for Excludes<'_> {
+    ghost use Rattle.problem_text.specs.TaskText.{exclude_line};
+
+    type Entry = (u8, u8);
+
+    ghost text = { λ w. exclude_line w.0.now.positions };
+
+    ghost spelled = { λ _ _. Unit {0} };
+
+    fn write(&self, pair: &(u8, u8), out: &mut Builder) -> Result<(), NoMemory> {
+        out.text(b"exclude")?;
+        out.word(self.0.name_at(pair.0))?;
+        out.word(self.0.name_at(pair.1))
+    }
 }
 
-/// Appends the line of a cumulative limit.
-pub fn push_cumulative(out: &mut Builder, hold: &Hold, limit: &Cumulative) -> Result<(), NoMemory>
-    ensures { OnOk result
-        (out.new ≡ out.old ++ (cumulative_line hold.now.positions limit.now ++ 10 ∷ [])) }
-{
-    out.text(b"cumulative")?;
-    out.word(word_of_end(limit.forward))?;
-    out.word(hold.name_at(limit.place))?;
-    push_mass(out, limit.most)?;
-    out.end_line()
+impl EntryWriter for AllCombined<'_> {
+    ghost use Rattle.problem_text.specs.TaskText.{combined_line};
+
+    type Entry = Combined;
+
+    ghost text = { λ w. combined_line w.0.now.positions };
+
+    ghost spelled = { λ _ _. Unit {0} };
+
+    fn write(&self, limit: &Combined, out: &mut Builder) -> Result<(), NoMemory> {
+        out.text(b"combined")?;
+        push_mass(out, limit.most)?;
+        write_run(&NamesOf(self.0), limit.places.as_slice(), out)
+    }
 }
 
-/// Appends the line of a position's side.
-pub fn push_side(out: &mut Builder, hold: &Hold, side: (u8, bool)) -> Result<(), NoMemory>
-    ensures { OnOk result
-        (out.new ≡ out.old ++ (side_line hold.now.positions side ++ 10 ∷ [])) }
-{
-    out.text(b"side")?;
-    out.word(hold.name_at(side.0))?;
-    out.word(word_of_side(side.1))?;
-    out.end_line()
+impl EntryWriter for AllCumulative<'_> {
+    ghost use Rattle.problem_text.specs.TaskText.{cumulative_line};
+
+    type Entry = Cumulative;
+
+    ghost text = { λ w. cumulative_line w.0.now.positions };
+
+    ghost spelled = { λ _ _. Unit {0} };
+
+    fn write(&self, limit: &Cumulative, out: &mut Builder) -> Result<(), NoMemory> {
+        out.text(b"cumulative")?;
+        out.word(word_of_end(limit.forward))?;
+        out.word(self.0.name_at(limit.place))?;
+        push_mass(out, limit.most)
+    }
+}
+
+impl EntryWriter for Sides<'_> {
+    ghost use Rattle.problem_text.specs.TaskText.{side_line};
+
+    type Entry = (u8, bool);
+
+    ghost text = { λ w. side_line w.0.now.positions };
+
+    ghost spelled = { λ _ _. Unit {0} };
+
+    fn write(&self, side: &(u8, bool), out: &mut Builder) -> Result<(), NoMemory> {
+        out.text(b"side")?;
+        out.word(self.0.name_at(side.0))?;
+        out.word(word_of_side(side.1))
+    }
+}
+
+impl EntryWriter for Items {
+    ghost use Rattle.hold_parts.specs.Spellings.{IsUldId};
+    ghost use Rattle.problem_text.specs.TaskText.{item_line};
+
+    type Entry = Item;
+
+    ghost text = { λ _. item_line };
+
+    ghost spelled = { λ _ item. IsUldId item.id };
+
+    fn write(&self, item: &Item, out: &mut Builder) -> Result<(), NoMemory> {
+        out.text(b"item")?;
+        out.word(item.id.bytes())?;
+        push_mass(out, item.mass)
+    }
+}
+
+impl EntryWriter for AllLoose<'_> {
+    ghost use Rattle.problem_text.specs.TaskText.{loose_line};
+
+    type Entry = Loose;
+
+    ghost text = { λ w. loose_line w.0.now.positions };
+
+    ghost spelled = { λ _ _. Unit {0} };
+
+    fn write(&self, load: &Loose, out: &mut Builder) -> Result<(), NoMemory> {
+        out.text(b"loose")?;
+        out.word(self.0.name_at(load.position))?;
+        push_mass(out, load.mass)
+    }
 }
 
 /// Appends the line of the greatest lateral difference.
@@ -163,30 +237,6 @@ pub fn push_lateral_most(out: &mut Builder, most: Kg) -> Result<(), NoMemory>
 {
     out.text(b"lateral")?;
     push_mass(out, most)?;
-    out.end_line()
-}
-
-/// Appends the line of a container.
-pub fn push_item(out: &mut Builder, item: &Item) -> Result<(), NoMemory>
-    ensures written { OnOk result
-        (out.new ≡ out.old ++ (item_line item.now ++ 10 ∷ [])) }
-    ensures identified { IsUldId item.now.id }
-{
-    let id = item.id.bytes();
-    out.text(b"item")?;
-    out.word(id)?;
-    push_mass(out, item.mass)?;
-    out.end_line()
-}
-
-/// Appends the line of a loose load.
-pub fn push_loose(out: &mut Builder, hold: &Hold, load: &Loose) -> Result<(), NoMemory>
-    ensures { OnOk result
-        (out.new ≡ out.old ++ (loose_line hold.now.positions load.now ++ 10 ∷ [])) }
-{
-    out.text(b"loose")?;
-    out.word(hold.name_at(load.position))?;
-    push_mass(out, load.mass)?;
     out.end_line()
 }
 

@@ -16,11 +16,15 @@ use crate::line_kinds::{
     CombinedLines, CumulativeLines, ExcludeLines, ItemLines, LooseLines, PositionLines, SideLines,
 };
 use crate::parts::{Parts, Sections, Version};
-use crate::single_lines::{next_band, next_index, next_lateral_most, next_version};
+use crate::single_lines::next_version;
 use hold_limits::{Combined, Cumulative, Hold, HoldFault, Lateral, Position, Sides, Task};
 use hold_parts::Indices;
+use mass_units::Band;
 use std::alloc::Global;
-use text_lines::{LineFault, Lines, Names, expect_line, read_section};
+use text_lines::{
+    IndexWord, Last, LineFault, Lines, MassWord, Names, Then, expect_last, next_fields,
+    read_section,
+};
 
 /// Reads the task that the text spells. Each line ends with one LF, and its words are separated by one space.
 ///
@@ -112,7 +116,7 @@ fn read_lateral(
         Version::One => Ok(None),
         Version::Two => {
             let sides = read_section(alloc, &SideLines(names), lines)?;
-            let most = next_lateral_most(lines)?;
+            let most = next_fields(b"lateral ", &Last(MassWord), lines)?;
             Ok(Some(Lateral {
                 most,
                 sides: Sides::from(sides),
@@ -126,17 +130,20 @@ fn read_indices(lines: &mut Lines<'_>) -> Result<Indices, LineFault>
     ensures read { IfOk result (λ indices. AreIndices indices × (lines.old.rest.now ≡ text_of (last_lines indices))) }
     ensures refused { IfErr result (Fails AreLast lines.old.rest.now lines.old.number) }
 {
-    let base = next_index(b"base ", lines)?;
-    let window = next_band(b"window ", lines)?;
-    let ideal = next_band(b"ideal ", lines)?;
-    expect_line(b"END", lines)?;
-    if !lines.rest.is_empty() {
-        return Err(LineFault::Line(lines.number));
-    }
+    let base = next_fields(b"base ", &Last(IndexWord), lines)?;
+    let window = next_fields(b"window ", &Then(IndexWord, Last(IndexWord)), lines)?;
+    let ideal = next_fields(b"ideal ", &Then(IndexWord, Last(IndexWord)), lines)?;
+    expect_last(b"END", lines)?;
     Ok(Indices {
         base,
-        window,
-        ideal,
+        window: Band {
+            low: window.0,
+            high: window.1,
+        },
+        ideal: Band {
+            low: ideal.0,
+            high: ideal.1,
+        },
     })
 }
 

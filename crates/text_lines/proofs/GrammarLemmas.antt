@@ -1,5 +1,7 @@
 -- how a refusal further on in a text is a refusal of the text from an earlier point on
 use Rattle.std.proofs.Common.{◌≡◌, ℕ, ◌+◌, ◌++◌, ◌∷◌, List, [], length, refl, sym, ◌∙◌, ap, subst, arith}
+use Rattle.std.specs.Prelude.{Result, Ok, Err, IfErr}
+use Rattle.std.specs.Result.{IsErrAnd}
 use Rattle.std.proofs.lemmas.List.{append_assoc, length-append}
 use Rattle.text_lines.specs.Cuts.{Avoids}
 use Rattle.text_lines.specs.Lines.{text_of}
@@ -7,7 +9,7 @@ use Rattle.text_lines.specs.Grammar.{Begins, Fails}
 use Rattle.text_lines.specs.Grammar.Fails.{wrong_line, more_bytes, early_end, no_memory}
 use Rattle.text_lines.specs.Sections.{HasNoneAhead}
 use Rattle.text_lines.specs.declared.fault.LineFault.{LineFault}
-use Rattle.text_lines.specs.declared.fault.LineFault.TheVariants.{Line}
+use Rattle.text_lines.specs.declared.fault.LineFault.TheVariants.{Line, NoMemory}
 use Rattle.text_lines.proofs.SectionLemmas.{text_of-append}
 use Rattle.text_lines.proofs.RunOfLines.{Stops}
 
@@ -76,6 +78,11 @@ fails_earlier W L lines text rest number next _ step e counted (early_end done b
     early_end (lines ++ done) behind (joined lines done text rest behind e g) clear (begins_earlier W L lines done rest step b)
     (λ whole. none (all_later W L lines done rest behind step g whole))
 fails_earlier W L lines text rest number next _ step e counted no_memory = no_memory
+
+-- being out of memory is a fault of each text
+pub fails_of_memory : {X : Type 0} (r : Result X LineFault) (IsKind : Lines → Type 0) (text : List ℕ) (number : ℕ) → IsErrAnd r (λ fault. fault ≡ NoMemory) → IfErr r (Fails IsKind text number)
+fails_of_memory (Ok x) K text number e = tt
+fails_of_memory (Err fault) K text number e = subst (Fails K text number) (sym e) no_memory
 
 -- lines of two kinds that are one have the same faults
 pub fails_same : {K L : Lines → Type 0} → ((lines : Lines) → K lines → L lines) → ((lines : Lines) → L lines → K lines) → (text : List ℕ) (number : ℕ) (fault : LineFault) → Fails K text number fault → Fails L text number fault

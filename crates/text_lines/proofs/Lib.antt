@@ -2,7 +2,6 @@ pub mod CutLemmas
 pub mod TextCuts
 pub mod GrowingTexts
 pub mod WordLemmas
-pub mod SpelledWords
 pub mod NameLemmas
 pub mod RunLemmas
 pub mod NameRuns
@@ -10,6 +9,7 @@ pub mod SectionLemmas
 pub mod RunOfLines
 pub mod GrammarLemmas
 pub mod Rests
+pub mod FieldLemmas
 pub mod RunsOfLines
 pub mod OneReading
 pub mod OneAnswer

@@ -1,7 +1,6 @@
 -- a name means the first position that has it
-use Rattle.std.proofs.Common.{◌≡◌, ◌≢◌, ℕ, ◌<◌, true, false, pos, List, [], ◌∷◌, length, take, get_or, Option, Some, None, IfSome, IfNone, Bool, not, option_map, refl, sym, ap, ◌∙◌, arith, All}
+use Rattle.std.proofs.Common.{◌≡◌, ◌≢◌, ℕ, ◌<◌, true, false, List, [], ◌∷◌, length, take, get_or, Option, Some, None, IfSome, IfNone, Bool, not, option_map, refl, sym, ap, ◌∙◌, arith}
 use Rattle.std.specs.Prelude.{bytes_eq}
-use Rattle.std.specs.Option.{option_map_or}
 use Rattle.std.proofs.lemmas.Bool.{true≢false}
 use Rattle.std.proofs.lemmas.List.{get_or-take, length-take-le}
 use Rattle.std.proofs.lemmas.List.Quantifiers.{position-Some}
@@ -9,21 +8,11 @@ use Rattle.std.proofs.lemmas.Option.{slice_get-get_or, same_Some, none-some}
 use Rattle.std.proofs.lemmas.Slice.Eq.{bytes_eq-Decides}
 use Rattle.hold_parts.specs.declared.parts.Position.{Position}
 use Rattle.hold_limits.proofs.FaultLemmas.{position-none}
-use Rattle.text_lines.specs.Cuts.{Avoids}
 use Rattle.text_lines.specs.Names.{IsNamed}
 use Rattle.hold_limits.specs.Layout.{name_at}
 use Rattle.text_lines.specs.Names.{byte_of}
+pub use Rattle.text_lines.specs.SpelledWords.{some_position, name_at-is, name_at-avoids}
 use Rattle.hold_parts.specs.Names.{number_named}
-
--- what no answer depends on
-pub some_position : Position
-some_position = record { name = []; compartment = 0; influence = pos 0; bulk = false; fits = [] }
-
-pub name_at-is : (ps : List Position) (q : ℕ) (d : Position) → q < length ps → name_at ps q ≡ (get_or ps q d).name
-name_at-is ps q d within = ap (λ o. option_map_or (λ (p : Position). p.name) o []) (slice_get-get_or ps q d within)
-
-pub name_at-avoids : (k : ℕ) (ps : List Position) (q : ℕ) → All (λ (p : Position). Avoids k p.name) ps → q < length ps → Avoids k (name_at ps q)
-name_at-avoids k ps q clear within = rw (name_at-is ps q some_position within) (clear q some_position within)
 
 -- an earlier position has another name
 earlier_differs : (ps : List Position) (p q : ℕ) → p < q → IsNamed ps q → name_at ps p ≢ name_at ps q
@@ -82,17 +71,9 @@ pub none_unless : {X : Type 0} {P Q : X → Type 0} (r : Option X) → ((x : X) 
 none_unless None f = λ x p q. none-some x (f x p q)
 none_unless (Some y) f = tt
 
-pub none_when : {X P : Type 0} (r : Option X) → (P → (x : X) × (r ≡ Some x)) → IfNone r (P → ⊥)
-none_when None f = λ p. let found = f p in none-some found.0 found.1
-none_when (Some y) f = tt
-
-pub none_of : {X P : Type 0} (r : Option X) → (P → ⊥) → IfNone r (P → ⊥)
-none_of None f = f
-none_of (Some y) f = tt
-
-pub none_so : {X Y : Type 0} {P Q : X → Type 0} (r : Option Y) → ((x : X) → P x → Q x → ⊥) → IfNone r ((x : X) → P x → Q x → ⊥)
-none_so None f = f
-none_so (Some y) f = tt
+pub none_then : {X P Q : Type 0} (r : Option X) → (P → Q) → IfNone r P → IfNone r Q
+none_then None f none = f none
+none_then (Some x) f none = tt
 
 pub length-zero : {X : Type 0} (xs : List X) → length xs ≡ 0 → xs ≡ []
 length-zero [] e = refl

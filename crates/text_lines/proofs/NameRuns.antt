@@ -1,10 +1,10 @@
 -- the names of positions at the end of a line
-use Rattle.std.proofs.Common.{◌≡◌, ◌≢◌, ℕ, ◌<◌, eqb, false, ◌++◌, ◌∷◌, List, [], length, map, take, get_or, Some, refl, sym, ◌∙◌, ap, arith, All}
+use Rattle.std.proofs.Common.{◌≡◌, ◌≢◌, ℕ, ◌<◌, ◌++◌, ◌∷◌, List, [], length, map, take, get_or, Some, refl, sym, ◌∙◌, ap, arith, All}
 use Rattle.std.specs.Prelude.{AllPairs, slice_get}
 use Rattle.std.specs.Option.{option_map_or}
 use Rattle.std.proofs.lemmas.Option.{slice_get-get_or}
 use Rattle.std.proofs.lemmas.List.{append-nil, get_or-take, length-take}
-use Rattle.std.proofs.lemmas.List.Elements.{All-head, All-tail, All-cons, All-nil, All-weaker}
+use Rattle.std.proofs.lemmas.List.Elements.{All-weaker}
 use Rattle.hold_parts.specs.Spellings.{IsName}
 use Rattle.hold_parts.specs.declared.parts.Position.{Position}
 use Rattle.hold_limits.specs.Layout.{name_at}
@@ -13,8 +13,7 @@ use Rattle.text_lines.specs.Lines.{line_of}
 use Rattle.text_lines.specs.Names.{IsNamed}
 use Rattle.text_lines.specs.WordRuns.{run_text, name_text}
 use Rattle.text_lines.proofs.CutLemmas.{cut_once}
-use Rattle.text_lines.proofs.WordLemmas.{avoids-append}
-use Rattle.text_lines.proofs.SpelledWords.{name_avoids}
+use Rattle.text_lines.specs.SpelledWords.{name_avoids}
 use Rattle.text_lines.proofs.NameLemmas.{name_at-avoids, named_once}
 use Rattle.text_lines.proofs.RunLemmas.{AreRead, run_text-begins}
 
@@ -44,12 +43,6 @@ names_begin ps clear path = run_text-begins (name_text ps) (IsNamed ps) (names_a
 pub line_of-names : (word : List ℕ) (ps : List Position) (path : List ℕ) → line_of (word ∷ map (name_at ps) path) ≡ word ++ run_text (name_text ps) path
 line_of-names word ps [] = sym (append-nil word)
 line_of-names word ps (q ∷ path) = ap (λ t. word ++ 32 ∷ t) (line_of-names (name_at ps q) ps path)
-
-pub names_avoid : (ps : List Position) (path : List ℕ) → AreClear 10 ps → All (IsNamed ps) path → Avoids 10 (run_text (name_text ps) path)
-names_avoid ps [] clear named = All-nil (λ b. eqb b 10 ≡ false)
-names_avoid ps (q ∷ path) clear named =
-    let here = All-head (IsNamed ps) q path named in
-    avoids-append 10 (name_text ps q) (run_text (name_text ps) path) (All-cons (λ b. eqb b 10 ≡ false) 32 (name_at ps q) refl (name_at-avoids 10 ps q clear here.known)) (names_avoid ps path clear (All-tail (IsNamed ps) q path named))
 
 -- where no two positions have one name, each is the first of its name
 pub first_named : (ps : List Position) → AllPairs (λ (a b : Position). a.name ≢ b.name) ps → (q : ℕ) → q < length ps → IsNamed ps q

@@ -1,6 +1,7 @@
 -- what is still to come of a text that states one thing, and how a fault of that is a fault of the text
 use Rattle.std.proofs.Common.{◌≡◌, ◌≢◌, ℕ, ◌+◌, ◌++◌, ◌∷◌, List, [], length, map, refl, sym, ◌∙◌, ap, subst, arith}
 use Rattle.std.proofs.lemmas.List.{append_assoc}
+use Rattle.std.proofs.lemmas.List.Elements.{All-nil, All-cons}
 use Rattle.text_lines.specs.Cuts.{Avoids}
 use Rattle.text_lines.specs.Lines.{text_of, IsStopped}
 use Rattle.text_lines.specs.Lines.IsStopped.{at_line, at_end}
@@ -13,6 +14,7 @@ use Rattle.text_lines.specs.declared.fault.LineFault.{LineFault}
 use Rattle.text_lines.specs.declared.fault.LineFault.TheVariants.{Line}
 use Rattle.text_lines.proofs.SectionLemmas.{text_of-append}
 use Rattle.text_lines.proofs.RunOfLines.{Stops}
+use Rattle.text_lines.proofs.TextCuts.{AreLines}
 use Rattle.text_lines.proofs.GrammarLemmas.{HasFirst, IsStep, fails_earlier}
 
 abbrev Lines : Type 0
@@ -91,13 +93,40 @@ stops-before line P lines more h x rest right e =
 pub stops-at : {X : Type 0} (line : X → List ℕ) (P : X → Type 0) (lines : Lines) → HasOther line P lines → Stops line P lines
 stops-at line P lines h x rest right e = let head : h.first ≡ line x = cc (h.are, e) in h.other x right head
 
--- One line ----------------------------------------------------------------------------------------
+-- Lines that say one part -------------------------------------------------------------------------
+
+-- the rest begins with lines that say what this part is, whatever follows them
+pub record StartsWithBlock {V X : Type 0} (rest : Rest V) (block : X → Lines) (IsRight : X → Type 0) (part : V → X) (later : V → Lines) : Type 0 where
+  pub once : (x y : X) (lines other : Lines) → IsRight x → IsRight y → block x ++ lines ≡ block y ++ other → (x ≡ y) × (lines ≡ other)
+  pub clear : (x : X) → IsRight x → AreLines (block x)
+  pub right : (v : V) → rest.Is v → IsRight (part v)
+  pub are : (v : V) → rest.Is v → rest.lines v ≡ block (part v) ++ later v
+
+pub past_block : {V X : Type 0} {rest : Rest V} {block : X → Lines} {P : X → Type 0} {part : V → X} {later : V → Lines} → StartsWithBlock rest block P part later
+    → (here there : Point) (said : X) → P said → here.rest.now ≡ text_of (block said) ++ there.rest.now → there.number ≡ here.number + length (block said) → Leads rest here (behind rest part said later) there
+past_block {rest = rest} {block = block} {part = part} {later = later} starts here there said right read counted =
+    past rest (behind rest part said later) here there (block said) read counted
+    (λ v is. (is.0, starts.are v is.0 ∙ (λ i. block (is.1 i) ++ later v)))
+    (λ v more first is e.
+    let same = starts.once (part v) said (later v) more (starts.right v is) right (sym (starts.are v is) ∙ e) in
+    ((is, same.0), sym same.1))
 
 -- the rest begins with one line of the kind, which says what this part is
 pub record StartsWithOne {V X : Type 0} (rest : Rest V) (line : X → List ℕ) (IsRight : X → Type 0) (part : V → X) (later : V → Lines) : Type 0 where
   pub kind : IsLineKind line IsRight
   pub right : (v : V) → rest.Is v → IsRight (part v)
   pub are : (v : V) → rest.Is v → rest.lines v ≡ line (part v) ∷ later v
+
+pub one_block : {V X : Type 0} {rest : Rest V} {line : X → List ℕ} {P : X → Type 0} {part : V → X} {later : V → Lines} → StartsWithOne rest line P part later → StartsWithBlock rest (λ x. line x ∷ []) P part later
+one_block {line = line} starts = record {
+  once = λ x y lines other p q e.
+      let head : line x ≡ line y = cc in
+      let tail : lines ≡ other = cc in
+      (starts.kind.once x y p q head, tail);
+  clear = λ x p. All-cons (Avoids 10) (line x) [] (starts.kind.avoids x p) (All-nil (Avoids 10));
+  right = starts.right;
+  are = starts.are;
+}
 
 -- the line between two points says this
 pub record SaysOne {X : Type 0} (line : X → List ℕ) (IsRight : X → Type 0) (here there : Point) (said : X) : Type 0 where
@@ -106,14 +135,13 @@ pub record SaysOne {X : Type 0} (line : X → List ℕ) (IsRight : X → Type 0)
   pub counted : there.number ≡ here.number + 1
 
 pub past_one : {V X : Type 0} {rest : Rest V} {line : X → List ℕ} {P : X → Type 0} {part : V → X} {later : V → Lines} → StartsWithOne rest line P part later → {here there : Point} {said : X} → SaysOne line P here there said → Leads rest here (behind rest part said later) there
-past_one {rest = rest} {line = line} {part = part} {later = later} starts {here = here} {there = there} {said = said} says =
-    past rest (behind rest part said later) here there (line said ∷ []) (says.read ∙ sym (append_assoc (line said) (10 ∷ []) there.rest.now)) (says.counted)
-    (λ v is. (is.0, starts.are v is.0 ∙ (λ i. line (is.1 i) ∷ later v)))
-    (λ v more first is e.
-    let whole : line (part v) ∷ later v ≡ line said ∷ more = sym (starts.are v is) ∙ e in
-    let head : line (part v) ≡ line said = cc in
-    let tail : more ≡ later v = cc in
-    ((is, starts.kind.once (part v) said (starts.right v is) says.right head), tail))
+past_one {line = line} starts {here = here} {there = there} {said = said} says =
+    past_block (one_block starts) here there said says.right (says.read ∙ sym (append_assoc (line said) (10 ∷ []) there.rest.now)) says.counted
+
+-- the same of a line that was read
+pub past_said : {V X : Type 0} {rest : Rest V} {line : X → List ℕ} {P : X → Type 0} {part : V → X} {later : V → Lines} → StartsWithOne rest line P part later → (here there : Point) (said : X)
+    → P said × (here.rest.now ≡ line said ++ 10 ∷ there.rest.now) → there.number ≡ here.number + 1 → Leads rest here (behind rest part said later) there
+past_said starts here there said read counted = past_one starts (record { right = read.0; read = read.1; counted = counted })
 
 -- the reader stopped at the line, or there is none
 pub fails_at : {V X : Type 0} {rest : Rest V} {line : X → List ℕ} {P : X → Type 0} {part : V → X} {later : V → Lines} (IsExpected : List ℕ → Type 0) → StartsWithOne rest line P part later → (some : V) → rest.Is some

@@ -5,11 +5,13 @@ use Rattle.std.proofs.lemmas.List.Elements.{All-head, All-tail}
 use Rattle.text_lines.specs.Cuts.{Avoids}
 use Rattle.text_lines.specs.Lines.{text_of, IsStopped}
 use Rattle.text_lines.specs.Lines.IsStopped.{at_line, at_end}
+use Rattle.text_lines.specs.Grammar.{Fails, IsOnly}
 use Rattle.text_lines.specs.Grammar.Fails.{wrong_line, more_bytes, early_end}
 use Rattle.text_lines.specs.Sections.{ArePart}
 use Rattle.text_lines.specs.declared.lines.Lines.{Lines as Point}
 use Rattle.text_lines.specs.declared.fault.LineFault.{LineFault}
 use Rattle.text_lines.specs.declared.fault.LineFault.TheVariants.{Line}
+use Rattle.text_lines.proofs.GrammarLemmas.{fails_same}
 use Rattle.text_lines.proofs.RunOfLines.{Stops}
 use Rattle.text_lines.proofs.Rests.{Rest, FailsAt, behind, Leads, past, IsLineKind, HasOther, stops-at}
 
@@ -70,30 +72,30 @@ pub record IsLast {V : Type 0} (rest : Rest V) (word : List ℕ) : Type 0 where
   pub known : (v w : V) → rest.Is v → rest.Is w → v ≡ w
   pub are : (v : V) → rest.Is v → rest.lines v ≡ word ∷ []
 
-pub fails_at_last : {V : Type 0} {rest : Rest V} {word : List ℕ} → IsLast rest word → (some : V) → rest.Is some → (here : Point) (fault : LineFault) → IsStopped here.rest.now here.number (λ line. line ≡ word) fault → FailsAt rest here fault
-fails_at_last {rest = rest} {word = word} last some is here _ (at_line first after e clear wrong) =
-    let At : ℕ → Type 0 = λ n. FailsAt rest here (Line n) in
-    subst At (omega arith)
-    (wrong_line [] first after e clear (record { more = rest.lines some; kind = record { said = some; spelled = is; are = refl } })
-    (λ b. let s = b.kind in let are : first ∷ b.more ≡ word ∷ [] = s.are ∙ last.are s.said s.spelled in let head : first ≡ word = cc in wrong head))
-fails_at_last {rest = rest} {word = word} last some is here _ (at_end clear) =
-    early_end [] here.rest.now refl clear (record { more = rest.lines some; kind = record { said = some; spelled = is; are = refl } })
-    (λ s. let none : [] ≡ word ∷ [] = s.are ∙ last.are s.said s.spelled in absurd (cc))
+pub fails_at_last : {V : Type 0} {rest : Rest V} {word : List ℕ} → IsLast rest word → (some : V) → rest.Is some → (here : Point) (fault : LineFault) → Fails (IsOnly word) here.rest.now here.number fault → FailsAt rest here fault
+fails_at_last last some is here fault fails =
+    fails_same
+    (λ lines e. record { said = some; spelled = is; are = e ∙ sym (last.are some is) })
+    (λ lines s. s.are ∙ last.are s.said s.spelled)
+    here.rest.now here.number fault fails
 
--- there are bytes behind the last line
-pub fails_behind_last : {V : Type 0} {rest : Rest V} {word : List ℕ} → IsLast rest word → (some : V) → rest.Is some → (here there : Point) → here.rest.now ≡ word ++ 10 ∷ there.rest.now → there.number ≡ here.number + 1 → (length there.rest.now ≡ 0 → ⊥) → FailsAt rest here (Line there.number)
-fails_behind_last {rest = rest} {word = word} last some is here there e counted more = of there.rest.now e more
+pub read_last : {V : Type 0} {rest : Rest V} {word : List ℕ} → IsLast rest word → (v : V) → rest.Is v → (here : Point) → here.rest.now ≡ word ++ 10 ∷ [] → here.rest.now ≡ text_of (rest.lines v)
+read_last last v is here e = e ∙ ap text_of (sym (last.are v is))
+
+-- The reader of the last line ---------------------------------------------------------------------
+
+pub stops_at_last : (word : List ℕ) (here : Point) (fault : LineFault) → IsStopped here.rest.now here.number (λ line. line ≡ word) fault → Fails (IsOnly word) here.rest.now here.number fault
+stops_at_last word here _ (at_line first after e clear wrong) =
+    let At : ℕ → Type 0 = λ n. Fails (IsOnly word) here.rest.now here.number (Line n) in
+    subst At (omega arith) (wrong_line [] first after e clear (record { more = word ∷ []; kind = refl }) (λ b. let head : first ≡ word = cc (b.kind) in wrong head))
+stops_at_last word here _ (at_end clear) = early_end [] here.rest.now refl clear (record { more = word ∷ []; kind = refl }) (λ e. absurd (cc))
+
+-- there are bytes behind it
+pub goes_on : (word : List ℕ) (here there : Point) → here.rest.now ≡ word ++ 10 ∷ there.rest.now → there.number ≡ here.number + 1 → (length there.rest.now ≡ 0 → ⊥) → Fails (IsOnly word) here.rest.now here.number (Line there.number)
+goes_on word here there e counted more = of there.rest.now e more
   where
-    of : (after : List ℕ) → here.rest.now ≡ word ++ 10 ∷ after → (length after ≡ 0 → ⊥) → FailsAt rest here (Line there.number)
+    of : (after : List ℕ) → here.rest.now ≡ word ++ 10 ∷ after → (length after ≡ 0 → ⊥) → Fails (IsOnly word) here.rest.now here.number (Line there.number)
     of [] e more = absurd (more refl)
     of (byte ∷ after) e more =
-        let At : ℕ → Type 0 = λ n. FailsAt rest here (Line n) in
-        subst At (omega (arith, counted)) (more_bytes (word ∷ []) byte after (e ∙ sym (append_assoc word (10 ∷ []) (byte ∷ after))) (record { said = some; spelled = is; are = sym (last.are some is) }))
-
--- nothing is left behind the last line
-pub read_last : {V : Type 0} {rest : Rest V} {word : List ℕ} → IsLast rest word → (v : V) → rest.Is v → (here there : Point) → here.rest.now ≡ word ++ 10 ∷ there.rest.now → length there.rest.now ≡ 0 → here.rest.now ≡ text_of (rest.lines v)
-read_last {rest = rest} {word = word} last v is here there e none = of there.rest.now e none ∙ ap text_of (sym (last.are v is))
-  where
-    of : (after : List ℕ) → here.rest.now ≡ word ++ 10 ∷ after → length after ≡ 0 → here.rest.now ≡ text_of (word ∷ [])
-    of [] e none = e
-    of (byte ∷ after) e none = absurd (omega (arith, none))
+        let At : ℕ → Type 0 = λ n. Fails (IsOnly word) here.rest.now here.number (Line n) in
+        subst At (omega (arith, counted)) (more_bytes (word ∷ []) byte after (e ∙ sym (append_assoc word (10 ∷ []) (byte ∷ after))) refl)

@@ -1,7 +1,9 @@
 -- words and texts without a byte
-use Rattle.std.proofs.Common.{◌≡◌, ℕ, Bool, true, false, ◌||◌, refl, eqb, List, [], ◌∷◌, ◌++◌}
+use Rattle.std.proofs.Common.{◌≡◌, ℕ, ◌<◌, Bool, true, false, ◌||◌, refl, eqb, List, [], ◌∷◌, ◌++◌, arith}
+use Rattle.std.specs.Prelude.{nat_le}
+use Rattle.std.specs.List.{list_all, list_any}
+use Rattle.std.proofs.lemmas.Bool.{and_parts, leb-true, ne_eqb}
 use Rattle.std.proofs.lemmas.List.Elements.{All-append, All-nil, All-cons}
-use Rattle.std.specs.List.{list_any}
 use Rattle.text_lines.specs.Cuts.{Avoids}
 
 pub avoids-append : (k : ℕ) (xs ys : List ℕ) → Avoids k xs → Avoids k ys → Avoids k (xs ++ ys)
@@ -21,3 +23,11 @@ plain_word k [] e = All-nil (λ b. eqb b k ≡ false)
 plain_word k (b ∷ word) e =
     let parts = or_false (eqb b k) (list_any (λ c. eqb c k) word) e in
     All-cons (λ b. eqb b k ≡ false) b word parts.0 (plain_word k word parts.1)
+
+-- the same of a word of letters, which has no byte before the minus
+pub letters_avoid : (k : ℕ) (word : List ℕ) → k < 45 → list_all (nat_le 45) word ≡ true → Avoids k word
+letters_avoid k [] low e = All-nil (λ b. eqb b k ≡ false)
+letters_avoid k (c ∷ word) low e =
+    let parts = and_parts (nat_le 45 c) (list_all (nat_le 45) word) e in
+    let high = leb-true 45 c parts.0 in
+    All-cons (λ b. eqb b k ≡ false) c word (ne_eqb c k (λ same. omega arith)) (letters_avoid k word low parts.1)

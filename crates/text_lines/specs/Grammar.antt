@@ -5,6 +5,10 @@ use Rattle.text_lines.specs.Lines.{text_of}
 use Rattle.text_lines.specs.declared.fault.LineFault.{LineFault}
 use Rattle.text_lines.specs.declared.fault.LineFault.TheVariants.{Line, NoEnd, NoMemory}
 
+-- there is this line alone
+abbrev pub IsOnly : List ℕ → List (List ℕ) → Type 0
+IsOnly word lines = lines ≡ word ∷ []
+
 -- lines that go on with these make lines of the kind
 pub record Begins (IsKind : List (List ℕ) → Type 0) (done : List (List ℕ)) : Type 0 where
   pub more : List (List ℕ)

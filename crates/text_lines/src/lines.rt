@@ -1,8 +1,9 @@
 //! The lines of a text, one after another.
 
-ghost use Rattle.std.specs.Prelude.{◌≡◌, ◌+◌, ◌<◌, ◌^◌, ◌∷◌, ◌++◌, length, IfSome, IfNone, IfOk, IfErr, OnOk};
+ghost use Rattle.std.specs.Prelude.{◌≡◌, ◌+◌, ◌<◌, ◌^◌, [], ◌∷◌, ◌++◌, length, IfSome, IfNone, IfOk, IfErr, OnOk};
 ghost use Rattle.text_lines.specs.Lines.{IsStopped};
 ghost use Rattle.text_lines.specs.Cuts.{Avoids};
+ghost use Rattle.text_lines.specs.Grammar.{Fails, IsOnly};
 
 use crate::cuts::split_once;
 use crate::fault::LineFault;
@@ -65,6 +66,18 @@ pub fn expect_line(expected: &[u8], lines: &mut Lines<'_>) -> Result<(), LineFau
     let number = lines.number;
     if lines.next_line()? != expected {
         return Err(LineFault::Line(number));
+    }
+    Ok(())
+}
+
+/// Consumes the line with this text, which nothing follows.
+pub fn expect_last(expected: &[u8], lines: &mut Lines<'_>) -> Result<(), LineFault>
+    ensures read { OnOk result (lines.old.rest.now ≡ expected.now ++ 10 ∷ []) }
+    ensures refused { IfErr result (Fails (IsOnly expected.now) lines.old.rest.now lines.old.number) }
+{
+    expect_line(expected, lines)?;
+    if !lines.rest.is_empty() {
+        return Err(LineFault::Line(lines.number));
     }
     Ok(())
 }

@@ -54,9 +54,9 @@ fn limits_text(alloc: Global, hold: &Hold) -> Result<String, AllocError> {
 }
 
 const LIMITS: &str = "[(1, 0)]
-[Combined { places: Places { list: [0, 1] }, most: Kg(2500) }]
+[Combined { places: ListOf { list: [0, 1] }, most: Kg(2500) }]
 [Cumulative { forward: false, place: 1, most: Kg(4500) }, Cumulative { forward: true, place: 0, most: Kg(1200) }]
-Some(Lateral { most: Kg(900), sides: Sides { list: [(0, false), (2, true)] } })";
+Some(Lateral { most: Kg(900), sides: ListOf { list: [(0, false), (2, true)] } })";
 
 #[test]
 fn the_hold_is_read(rt: HostRuntime) -> Result<(), Fail> {

@@ -1,5 +1,5 @@
 -- lines that name the positions of a set
-use Rattle.std.proofs.Common.{◌≡◌, ◌≢◌, ⊎_elim, ℕ, ◌<◌, ◌≤◌, ◌^◌, true, false, ◌||◌, ◌==◌, eqb, ◌++◌, ◌∷◌, List, [], length, sym, ◌∙◌, ap, arith, All, Option, Some, None, IfSome, IfNone}
+use Rattle.std.proofs.Common.{◌≡◌, ◌≢◌, ⊎_elim, ℕ, ◌<◌, ◌≤◌, ◌^◌, true, false, ◌||◌, ◌==◌, ◌++◌, ◌∷◌, List, [], length, sym, ◌∙◌, ap, arith, All, Option, Some, None, IfSome, IfNone}
 use Rattle.std.proofs.lemmas.Bool.{false≢true}
 use Rattle.std.proofs.lemmas.List.{append-nil}
 use Rattle.std.proofs.lemmas.List.Elements.{All-head, All-nil, All-push, All-same}
@@ -7,10 +7,11 @@ use Rattle.hold_parts.specs.declared.parts.Position.{Position}
 use Rattle.text_lines.specs.Cuts.{Avoids, IsCutAt}
 use Rattle.text_lines.specs.Names.{IsNamed}
 use Rattle.text_lines.specs.WordRuns.{run_text, name_text}
-use Rattle.text_lines.proofs.RunLemmas.{run_text-push, run_again, no_more, run_once}
-use Rattle.text_lines.proofs.WordLemmas.{avoids-append}
+use Rattle.text_lines.proofs.RunLemmas.{run_text-push, run_again, no_more}
+use Rattle.text_lines.proofs.FieldLemmas.{name_run}
+use Rattle.text_lines.proofs.Rests.{IsLineKind}
 use Rattle.certificate.specs.CertificateText.{path_line}
-use Rattle.certificate.proofs.PathLemmas.{AreClear, names_are_read, names_avoid, names_begin, path_line-is}
+use Rattle.certificate.proofs.PathLemmas.{AreClear, AreNames, names_are_read, names_begin, path_line-is}
 use Rattle.text_lines.proofs.CutLemmas.{cut_once}
 use Rattle.position_set.specs.declared.set.PositionSet.{PositionSet}
 use Rattle.position_set.specs.Sets.{has, members}
@@ -21,23 +22,17 @@ use Rattle.tree_certificate.specs.TreeText.{IsSpelledSet}
 
 -- Lines -----------------------------------------------------------------------------------------
 
-pub set_avoids : (word : List ℕ) (ps : List Position) → Avoids 10 word → AreClear 10 ps → (set : PositionSet) → IsSpelledSet ps set → Avoids 10 (path_line word ps (members set))
-set_avoids word ps plain clear set s =
-    All-same (λ b. eqb b 10 ≡ false) (path_line word ps (members set)) _ (path_line-is word ps (members set))
-    (avoids-append 10 word (run_text (name_text ps) (members set)) plain (names_avoid ps (members set) clear s.named))
-
 -- the words of a line, cut at its first space
 pub set_words : (word : List ℕ) (ps : List Position) → Avoids 32 word → AreClear 32 ps → (set : PositionSet) (first words : List ℕ) → Avoids 32 first → IsCutAt 32 words → first ++ words ≡ path_line word ps (members set)
     → (first ≡ word) × (words ≡ run_text (name_text ps) (members set))
 set_words word ps plain clear set first words front cut e =
     cut_once 32 first words word (run_text (name_text ps) (members set)) front plain cut (names_begin ps clear (members set)) (e ∙ path_line-is word ps (members set))
 
-pub run_of_set : (ps : List Position) → AreClear 32 ps → (a b : PositionSet) → IsSpelledSet ps a → IsSpelledSet ps b → run_text (name_text ps) (members a) ≡ run_text (name_text ps) (members b) → a ≡ b
-run_of_set ps clear a b s t e = members-same a b s.fits t.fits (run_once (name_text ps) (IsNamed ps) (names_are_read ps clear) (members a) (members b) s.named t.named e)
-
-pub set_once : (word : List ℕ) (ps : List Position) → Avoids 32 word → AreClear 32 ps → (a b : PositionSet) → IsSpelledSet ps a → IsSpelledSet ps b → path_line word ps (members a) ≡ path_line word ps (members b) → a ≡ b
-set_once word ps plain clear a b s t e =
-    run_of_set ps clear a b s t (set_words word ps plain clear b word (run_text (name_text ps) (members a)) plain (names_begin ps clear (members a)) (sym (path_line-is word ps (members a)) ∙ e)).1
+-- sets by their names
+pub sets : (ps : List Position) → AreNames ps → IsLineKind (λ set. run_text (name_text ps) (members set)) (IsSpelledSet ps)
+sets ps names =
+    let run = name_run ps names in
+    record { once = λ a b s t e. members-same a b s.fits t.fits (run.once (members a) (members b) s.named t.named e); avoids = λ set s. run.avoids (members set) s.named }
 
 -- The reader of names ---------------------------------------------------------------------------
 

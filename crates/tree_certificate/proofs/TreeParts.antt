@@ -1,30 +1,31 @@
 -- the lines of a certificate of trees after its first, part by part
-use Rattle.std.proofs.Common.{◌≡◌, ℕ, ◌+◌, ◌++◌, ◌∷◌, List, [], map, refl, sym, ◌∙◌, ap, All, codes, lit<}
+use Rattle.std.proofs.Common.{◌≡◌, ℕ, ◌+◌, ◌++◌, ◌∷◌, List, [], map, refl, sym, ◌∙◌, ap, All, codes}
 use Rattle.std.proofs.lemmas.List.{append_assoc}
 use Rattle.std.proofs.lemmas.List.Elements.{All-nil, All-append}
 use Rattle.hold_parts.specs.declared.parts.Position.{Position}
 use Rattle.text_lines.specs.Cuts.{Avoids}
-use Rattle.text_lines.specs.Sections.{HasNoneAhead}
+use Rattle.text_lines.specs.Sections.{HasNoneAhead, IsSection}
 use Rattle.text_lines.specs.declared.lines.Lines.{Lines as Point}
 use Rattle.text_lines.proofs.WordLemmas.{plain_word}
 use Rattle.text_lines.proofs.RunOfLines.{Stops}
 use Rattle.text_lines.proofs.GrammarLemmas.{stops_from}
-use Rattle.text_lines.proofs.PartSteps.{IsAny, PartBetween}
-use Rattle.text_lines.proofs.Rests.{Rest, behind, Leads, then, past, IsLineKind, StartsWithOne, SaysOne, past_one}
+use Rattle.text_lines.proofs.PartSteps.{IsAny, PartBetween, whole_part}
+use Rattle.text_lines.proofs.Rests.{Rest, behind, Leads, then, past, StartsWithOne, SaysOne, past_one}
 use Rattle.text_lines.proofs.RunsOfLines.{StartsWithRun, past_run, IsLast}
 use Rattle.text_lines.proofs.OneReading.{IsReadOnce, one_then, run_then, last_then}
 use Rattle.certificate.specs.CertificateText.{claim_line, IsSpelledClaim}
 use Rattle.certificate.specs.declared.parts.Claim.{Claim}
 use Rattle.certificate.specs.declared.parts.Claim.TheVariants.{Best, NoneFits}
-use Rattle.certificate.proofs.PathLemmas.{AreNames, clear_names}
-use Rattle.certificate.proofs.EvidenceParts.{claims}
+use Rattle.certificate.proofs.PathLemmas.{AreNames}
+use Rattle.certificate.proofs.LineLemmas.{claims}
 use Rattle.position_set.specs.declared.set.PositionSet.{PositionSet}
 use Rattle.tree_certificate.specs.declared.parts.Operation.{Operation}
 use Rattle.tree_certificate.specs.Listed.{ListedPrices, ListedSibling, ListedTrees}
 use Rattle.tree_certificate.specs.TreeText.{clique_line, price_line, operation_line, root_line, least_line, sibling_lines, tree_lines, IsSpelledSet, IsSpelledPriceList, IsSpelledOperation, IsSpelledLeast, IsSpelledSibling, IsSpelled}
 use Rattle.tree_certificate.specs.Reading.{AreSiblings}
-use Rattle.tree_certificate.proofs.PriceLemmas.{price_line-once, price_line-avoids}
-use Rattle.tree_certificate.proofs.LineLemmas.{clique_feeds, clique_once, operation_feeds, operation_once, least_feeds, cliques_end, prices_end, operations_end, end_stops_operations, end_stops_siblings, siblings_once, siblings_are}
+use Rattle.tree_certificate.proofs.PriceLemmas.{price_lines}
+use Rattle.tree_certificate.proofs.LineLemmas as kind
+use Rattle.tree_certificate.proofs.LineLemmas.{cliques_end, prices_end, operations_end, end_stops_operations, end_stops_siblings, siblings_once, siblings_are}
 
 abbrev Lines : Type 0
 Lines = List (List ℕ)
@@ -75,13 +76,10 @@ module _ (ps : List Position) (names : AreNames ps) where
   pub starts_with_claim : StartsWithOne (trees ps) (claim_line ps) (IsSpelledClaim ps) (λ c. c.claim) (λ c. map (clique_line ps) c.cliques ++ price_part ps c)
   starts_with_claim = record { kind = claims ps names; right = λ c s. s.claim; are = λ c s. refl }
 
-  operations_are : IsLineKind (operation_line ps) (IsSpelledOperation ps)
-  operations_are = record { once = operation_once ps (clear_names 32 ps (lit< tt) names); avoids = operation_feeds ps (clear_names 10 ps (lit< tt) names) }
-
   module _ (claim : Claim) where
     pub starts_with_cliques : StartsWithRun (from_cliques ps claim) (clique_line ps) (IsSpelledSet ps) IsAny (λ c. c.cliques) (price_part ps)
     starts_with_cliques = record {
-      kind = record { once = clique_once ps (clear_names 32 ps (lit< tt) names); avoids = clique_feeds ps (clear_names 10 ps (lit< tt) names) };
+      kind = kind.cliques ps names;
       front = λ xs ys any. tt;
       right = λ c s. s.0.cliques;
       allowed = λ c s. tt;
@@ -92,7 +90,7 @@ module _ (ps : List Position) (names : AreNames ps) where
     module _ (cliques : List PositionSet) where
       pub starts_with_prices : StartsWithRun (from_prices ps claim cliques) (price_line ps) (IsSpelledPriceList ps) IsAny (λ c. c.prices) (λ c. root_line c.claim ∷ root_part ps c)
       starts_with_prices = record {
-        kind = record { once = price_line-once ps names; avoids = price_line-avoids ps names };
+        kind = price_lines ps names;
         front = λ xs ys any. tt;
         right = λ c s. s.0.0.prices;
         allowed = λ c s. tt;
@@ -111,7 +109,7 @@ module _ (ps : List Position) (names : AreNames ps) where
         module _ (u : Unit {0}) where
           pub starts_with_operations : StartsWithRun (from_operations ps claim cliques prices u) (operation_line ps) (IsSpelledOperation ps) IsAny (λ c. c.root) (sibling_part ps)
           starts_with_operations = record {
-            kind = operations_are;
+            kind = kind.operations ps names;
             front = λ xs ys any. tt;
             right = λ c s. s.0.0.0.0.root;
             allowed = λ c s. tt;
@@ -124,7 +122,7 @@ module _ (ps : List Position) (names : AreNames ps) where
             siblings_again : (xs ys : List ListedSibling) (more other : Lines) → All (IsSpelledSibling ps) xs → All (IsSpelledSibling ps) ys → Stops (least_line ps) (IsSpelledLeast ps) more → Stops (operation_line ps) (IsSpelledOperation ps) more
                 → sibling_lines ps xs ++ more ≡ sibling_lines ps ys ++ codes "END" ∷ other → (xs ≡ ys) × (more ≡ codes "END" ∷ other)
             siblings_again xs ys more other p q least operation e =
-                siblings_once ps (clear_names 32 ps (lit< tt) names) xs ys more (codes "END" ∷ other) p q least (end_stops_siblings ps other) operation (end_stops_operations ps other) e
+                siblings_once ps names xs ys more (codes "END" ∷ other) p q least (end_stops_siblings ps other) operation (end_stops_operations ps other) e
 
             pub past_siblings : (here there : Point) (got : List ListedSibling) → HasNoneAhead (operation_line ps) (IsSpelledOperation ps) here.rest.now → AreSiblings ps here.rest.now there.rest.now here.number there.number got
                 → Leads (from_siblings ps claim cliques prices u root) here (from_end ps claim cliques prices u root got) there
@@ -132,9 +130,8 @@ module _ (ps : List Position) (names : AreNames ps) where
                 past (from_siblings ps claim cliques prices u root) (from_end ps claim cliques prices u root got) here there (sibling_lines ps got) are.read are.counted
                 (λ c s. (s.0, ap (λ (xs : List ListedSibling). sibling_lines ps xs ++ codes "END" ∷ []) s.1))
                 (λ c more first s e.
-                let feeds = clear_names 10 ps (lit< tt) names in
-                let least = stops_from (least_line ps) (IsSpelledLeast ps) (least_feeds ps feeds) there.rest.now more are.stops first in
-                let operation = stops_from (operation_line ps) (IsSpelledOperation ps) (operation_feeds ps feeds) there.rest.now more (are.idle idle) first in
+                let least = stops_from (least_line ps) (IsSpelledLeast ps) (kind.leasts ps names).avoids there.rest.now more are.stops first in
+                let operation = stops_from (operation_line ps) (IsSpelledOperation ps) (kind.operations ps names).avoids there.rest.now more (are.idle idle) first in
                 let same = siblings_again got c.siblings more [] are.right s.0.0.0.0.0.siblings least operation (sym e) in
                 ((s, sym same.0), same.1))
 
@@ -157,7 +154,7 @@ module _ (ps : List Position) (names : AreNames ps) where
                   let whole : sibling_lines ps c.siblings ++ (codes "END" ∷ more) ≡ sibling_lines ps d.siblings ++ codes "END" ∷ [] = sym (append_assoc (sibling_lines ps c.siblings) (codes "END" ∷ []) more) ∙ e in
                   let same = siblings_again c.siblings d.siblings (codes "END" ∷ more) [] s.0.0.0.0.0.siblings t.0.0.0.0.0.siblings (end_stops_siblings ps more) (end_stops_operations ps more) whole in
                   (last_then (ends d.siblings)).once c d more (s, same.0) (t, refl) same.1;
-              clear = λ c s. All-append (Avoids 10) (sibling_lines ps c.siblings) (codes "END" ∷ []) (siblings_are ps (clear_names 10 ps (lit< tt) names) c.siblings s.0.0.0.0.0.siblings) ((last_then (ends c.siblings)).clear c (s, refl));
+              clear = λ c s. All-append (Avoids 10) (sibling_lines ps c.siblings) (codes "END" ∷ []) (siblings_are ps names c.siblings s.0.0.0.0.0.siblings) ((last_then (ends c.siblings)).clear c (s, refl));
             }
 
   pub is_read_once : IsReadOnce (trees ps)
@@ -181,6 +178,24 @@ pub record ReadToEnd (ps : List Position) (l3 l4 l5 l6 : Point) (claim : Claim) 
   pub root_are : PartBetween (operation_line ps) (IsSpelledOperation ps) IsAny l4 l5 root
   pub idle : HasNoneAhead (operation_line ps) (IsSpelledOperation ps) l5.rest.now
   pub siblings_are : AreSiblings ps l5.rest.now l6.rest.now l5.number l6.number siblings
+
+pub read_to_root : (ps : List Position) (l0 l1 l2 l3 : Point) (claim : Claim) (cliques : List PositionSet) (prices : List ListedPrices) → IsSpelledClaim ps claim × (l0.rest.now ≡ claim_line ps claim ++ 10 ∷ l1.rest.now) → l1.number ≡ l0.number + 1
+    → IsSection (clique_line ps) (IsSpelledSet ps) (λ x. x) l1.rest.now l2.rest.now l1.number l2.number cliques → IsSection (price_line ps) (IsSpelledPriceList ps) (λ x. x) l2.rest.now l3.rest.now l2.number l3.number prices
+    → ReadToRoot ps l0 l1 l2 l3 claim cliques prices
+read_to_root ps l0 l1 l2 l3 claim cliques prices read counted a b = record {
+  claim_is = record { right = read.0; read = read.1; counted = counted };
+  cliques_are = whole_part (clique_line ps) (IsSpelledSet ps) l1.rest.now l2.rest.now l1.number l2.number cliques a;
+  prices_are = whole_part (price_line ps) (IsSpelledPriceList ps) l2.rest.now l3.rest.now l2.number l3.number prices b;
+}
+
+pub read_to_end : (ps : List Position) (l3 l4 l5 l6 : Point) (claim : Claim) (root : List Operation) (siblings : List ListedSibling) → l3.rest.now ≡ root_line claim ++ 10 ∷ l4.rest.now → l4.number ≡ l3.number + 1
+    → IsSection (operation_line ps) (IsSpelledOperation ps) (λ x. x) l4.rest.now l5.rest.now l4.number l5.number root → AreSiblings ps l5.rest.now l6.rest.now l5.number l6.number siblings → ReadToEnd ps l3 l4 l5 l6 claim root siblings
+read_to_end ps l3 l4 l5 l6 claim root siblings read counted a b = record {
+  root_is = record { right = tt; read = read; counted = counted };
+  root_are = whole_part (operation_line ps) (IsSpelledOperation ps) l4.rest.now l5.rest.now l4.number l5.number root a;
+  idle = a.stops;
+  siblings_are = b;
+}
 
 pub to_root : (ps : List Position) → AreNames ps → (l0 l1 l2 l3 : Point) {claim : Claim} {cliques : List PositionSet} {prices : List ListedPrices} → ReadToRoot ps l0 l1 l2 l3 claim cliques prices → Leads (trees ps) l0 (from_root ps claim cliques prices) l3
 to_root ps names l0 l1 l2 l3 {claim = claim} {cliques = cliques} r =

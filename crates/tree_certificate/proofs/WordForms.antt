@@ -8,22 +8,21 @@ use Rattle.std.specs.Int.{IsInRange}
 use Rattle.std.specs.Str.Parse.{AllDigits}
 use Rattle.mass_units.specs.Spelling.{number_text, IsNumber}
 use Rattle.mass_units.proofs.SpellingLemmas.{number_text-avoids, number_text-injective, AllDigits-number_text}
-use Rattle.hold_parts.specs.Spellings.{IsCapital, IsDigit, IsCapitalOrDigit}
+use Rattle.base_words.specs.Letters.{IsCapital, IsDigit, IsCapitalOrDigit}
 use Rattle.hold_parts.specs.declared.parts.Position.{Position}
 use Rattle.hold_limits.specs.Layout.{name_at}
 use Rattle.text_lines.specs.Cuts.{Avoids}
 use Rattle.text_lines.specs.Names.{IsNamed}
-use Rattle.text_lines.proofs.NameLemmas.{some_position, name_at-is, name_at-avoids, named_once}
-use Rattle.certificate.proofs.PathLemmas.{AreNames, clear_names}
+use Rattle.text_lines.proofs.FieldLemmas.{IsWordKind, numbers, named}
+use Rattle.text_lines.proofs.NameLemmas.{some_position, name_at-is, name_at-avoids}
+use Rattle.certificate.proofs.PathLemmas.{AreNames}
 use Rattle.tree_certificate.specs.declared.price_readers.Holders.{Holders}
 use Rattle.tree_certificate.specs.declared.price_readers.Holders.TheVariants.{Positions, Numbers}
 use Rattle.tree_certificate.specs.Reading.{holder_word, IsHolder}
 
--- words without a space, the end of a line or a semicolon in front, each of which says what it is of
+-- words that say what a price is of, none of which begins with a semicolon
 pub record AreWords (word : ℕ → List ℕ) (IsRight : ℕ → Type 0) : Type 0 where
-  pub avoids : (n : ℕ) → IsRight n → Avoids 32 (word n)
-  pub feeds : (n : ℕ) → IsRight n → Avoids 10 (word n)
-  pub once : (m n : ℕ) → IsRight m → IsRight n → word m ≡ word n → m ≡ n
+  pub kind : IsWordKind word IsRight
   pub plain : (n : ℕ) (rest : List ℕ) → IsRight n → word n ≢ 59 ∷ rest
 
 name_plain : (ps : List Position) → AreNames ps → (q : ℕ) (rest : List ℕ) → IsNamed ps q → name_at ps q ≢ 59 ∷ rest
@@ -33,12 +32,7 @@ name_plain ps names q rest named e =
     ⊎_elim (λ (a : IsCapital 59). absurd (omega arith)) (λ (b : IsDigit 59). absurd (omega arith)) (All-head IsCapitalOrDigit 59 rest letters)
 
 pub names_are_words : (ps : List Position) → AreNames ps → AreWords (name_at ps) (IsNamed ps)
-names_are_words ps names = record {
-  avoids = λ q named. name_at-avoids 32 ps q (clear_names 32 ps (lit< tt) names) named.known;
-  feeds = λ q named. name_at-avoids 10 ps q (clear_names 10 ps (lit< tt) names) named.known;
-  once = named_once ps;
-  plain = λ q rest named. name_plain ps names q rest named;
-}
+names_are_words ps names = record { kind = named ps names; plain = λ q rest right. name_plain ps names q rest right }
 
 number_plain : (n : ℕ) (rest : List ℕ) → number_text n ≢ 59 ∷ rest
 number_plain n rest e =
@@ -48,9 +42,7 @@ number_plain n rest e =
 
 pub numbers_are_words : AreWords number_text IsNumber
 numbers_are_words = record {
-  avoids = λ n right. number_text-avoids 32 n (lit< tt);
-  feeds = λ n right. number_text-avoids 10 n (lit< tt);
-  once = λ m n right right'. number_text-injective m n;
+  kind = record { once = λ m n s t. numbers.once m n tt tt; avoids = λ k low n s. numbers.avoids k low n tt };
   plain = λ n rest right. number_plain n rest;
 }
 

@@ -1,6 +1,6 @@
 //! The reader of a certificate's text.
 
-ghost use Rattle.std.specs.Prelude.{◌≡◌, ◌≢◌, ℕ, ◌+◌, ◌≤◌, List, ◌∷◌, ◌++◌, length, map, All, AllPairs, IfOk, IfErr, IfSome, IfNone, MatchResult};
+ghost use Rattle.std.specs.Prelude.{◌≡◌, ◌≢◌, ◌+◌, ◌≤◌, List, ◌∷◌, ◌++◌, length, map, All, AllPairs, IfOk, IfErr, IfSome, IfNone, MatchResult};
 ghost use Rattle.hold_parts.specs.Spellings.{IsName};
 ghost use Rattle.hold_parts.specs.declared.parts.Position.{Position};
 ghost use Rattle.text_lines.specs.Grammar.{Fails};
@@ -18,7 +18,7 @@ use base_words::NoMemory;
 use certificate::{CertFault, NameTable, after_start, next_claim};
 use hold_limits::{Position, Task};
 use std::alloc::Global;
-use text_lines::{LineFault, Lines, expect_line, read_section};
+use text_lines::{LineFault, Lines, expect_last, expect_line, read_section};
 
 /// The line with which a certificate of trees begins.
 const START: &[u8] = b"CERTIFICATE 3";
@@ -146,6 +146,7 @@ fn read_lines(
 }
 
 /// The same, with the positions by their names.
+#[tactic(auto, using(text_lines::proofs::GrammarLemmas::fails_of_memory))]
 fn read_named(
     alloc: Global,
     names: &NameTable<'_>,
@@ -162,10 +163,7 @@ fn read_named(
     expect_line(root_word(&claim), lines)?;
     let root = read_section(alloc, &OperationLines(names), lines)?;
     let siblings = next_siblings(alloc, names, lines)?;
-    expect_line(b"END", lines)?;
-    if !lines.rest.is_empty() {
-        return Err(LineFault::Line(lines.number));
-    }
+    expect_last(b"END", lines)?;
     Ok(TreeCertificate {
         claim,
         cliques,

@@ -6,13 +6,14 @@ ghost use Rattle.tree_certificate.specs.Listed.{listed_trees};
 ghost use Rattle.certificate.specs.Starts.{IsEarlier};
 ghost use Rattle.tree_certificate.specs.TreeText.{start_line, tree_text, IsSpelled, Spells};
 
-use crate::line_writers::{push_cliques, push_operations, push_price_lists, push_siblings};
+use crate::line_writers::{Cliques, Operations, PriceLists, Siblings};
 use crate::parts::{TreeCertificate, root_word};
 use base_words::NoMemory;
 use certificate::push_claim;
 use hold_limits::Task;
 use std::alloc::Global;
 use telex::Builder;
+use text_lines::{write_lines, write_run};
 
 /// Appends the text of the certificate over the positions of the task's hold.
 pub fn push_trees(
@@ -25,12 +26,12 @@ pub fn push_trees(
     let hold = task.hold();
     out.text(b"CERTIFICATE 3\n")?;
     push_claim(out, hold, &certificate.claim)?;
-    push_cliques(out, hold, certificate.cliques.as_slice())?;
-    push_price_lists(out, hold, certificate.prices.as_slice())?;
+    write_lines(&Cliques(hold), certificate.cliques.as_slice(), out)?;
+    write_lines(&PriceLists(hold), certificate.prices.as_slice(), out)?;
     out.text(root_word(&certificate.claim))?;
     out.end_line()?;
-    push_operations(out, hold, certificate.root.as_slice())?;
-    push_siblings(out, hold, certificate.siblings.as_slice())?;
+    write_lines(&Operations(hold), certificate.root.as_slice(), out)?;
+    write_run(&Siblings(hold), certificate.siblings.as_slice(), out)?;
     out.text(b"END\n")?;
     Ok(())
 }

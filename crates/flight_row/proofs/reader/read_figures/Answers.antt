@@ -1,10 +1,10 @@
 use Rattle.std.proofs.Common.{[], refl}
 use Rattle.std.proofs.lemmas.Result.{err_from_is_err_and}
 use Rattle.text_lines.specs.Grammar.Fails.{no_memory}
-use Rattle.text_lines.proofs.Rests.{then}
+use Rattle.text_lines.proofs.Rests.{then, past_said}
 use Rattle.text_lines.proofs.RunsOfLines.{past_run}
 use Rattle.flight_row.proofs.RowParts.{figures_with, no_fuel, no_limits, no_figures, some_row, fuel_right, limits_right, figures_right, no_figures_right, in_head, fails_at_next, starts_with_dry, starts_with_fuel, starts_with_limits, starts_with_zones, starts_with_containers, starts_with_loads}
-use Rattle.flight_row.proofs.ReadLemmas.{past_said, has_read}
+use Rattle.flight_row.proofs.ReadLemmas.{has_read}
 use Rattle.flight_row.proofs.reader.read_figures.Goals as goal
 
 pub returns-in_err-dry-clause-refused : goal.returns-in_err-dry-clause-refused

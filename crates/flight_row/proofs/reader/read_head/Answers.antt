@@ -1,10 +1,10 @@
 use Rattle.std.proofs.Common.{refl, lit≤}
 use Rattle.std.proofs.lemmas.Result.{err_from_is_err_and}
 use Rattle.flight_state.specs.declared.state.Stage.TheVariants.{Working}
-use Rattle.text_lines.proofs.Rests.{then}
+use Rattle.text_lines.proofs.Rests.{then, past_said}
 use Rattle.flight_row.specs.declared.reader.Head.{Head}
 use Rattle.flight_row.proofs.RowParts.{head_with, some_leg, no_figures, some_row, leg_right, head_right, no_figures_right, some_right, fails_at_next, fails_at_releases, starts_with_leg, starts_with_edition, starts_with_stage, past_releases}
-use Rattle.flight_row.proofs.ReadLemmas.{past_said, has_read}
+use Rattle.flight_row.proofs.ReadLemmas.{has_read}
 use Rattle.flight_row.proofs.reader.read_head.Goals as goal
 
 pub returns-in_err-leg-clause-refused : goal.returns-in_err-leg-clause-refused

@@ -4,7 +4,7 @@ use Rattle.flight_state.specs.declared.state.Stage.TheVariants.{Working}
 use Rattle.flight_row.specs.declared.row.Version.TheVariants.{Two}
 use Rattle.flight_row.specs.Reading.{Said, row_with}
 use Rattle.flight_row.proofs.RowParts.{head_with, some_leg, no_figures, some_row, leg_right, head_right, no_figures_right, some_right, fails_at_next, fails_text, starts_with_version}
-use Rattle.flight_row.proofs.ReadLemmas.{past_said}
+use Rattle.text_lines.proofs.Rests.{past_said}
 use Rattle.flight_row.proofs.reader.read_lines.Goals as goal
 
 pub returns-in_err-version-clause-refused : goal.returns-in_err-version-clause-refused

@@ -1,10 +1,7 @@
-use Rattle.std.proofs.Common.{◌≡◌, ◌∙◌, length, sym, eq-eqb}
 use Rattle.std.specs.Prelude.{option_to_list}
-use Rattle.std.proofs.lemmas.Bool.{false≢true, eqb-true}
 use Rattle.std.proofs.lemmas.Result.{err_from_is_err_and}
 use Rattle.text_lines.specs.Grammar.Fails.{no_memory}
-use Rattle.text_lines.specs.declared.fault.LineFault.TheVariants.{Line}
-use Rattle.text_lines.proofs.RunsOfLines.{fails_at_last, fails_behind_last, read_last}
+use Rattle.text_lines.proofs.RunsOfLines.{fails_at_last, read_last}
 use Rattle.flight_row.specs.Reading.{Said, row_with}
 use Rattle.flight_row.proofs.RowParts.{fails_at_plan, ends}
 use Rattle.flight_row.proofs.ReadLemmas.{to_end}
@@ -20,31 +17,18 @@ returns-in_err-lmcs-clause-refused c =
     let p = err_from_is_err_and c.from_residual-in_err-lmcs.result c.from_residual-in_err-lmcs.ensures.1 in
     rw (p.1, p.2) (λ version h f. no_memory)
 
-pub returns-in_err-expect_line-clause-refused : goal.returns-in_err-expect_line-clause-refused
-returns-in_err-expect_line-clause-refused c =
+pub returns-in_err-expect_last-clause-refused : goal.returns-in_err-expect_last-clause-refused
+returns-in_err-expect_last-clause-refused c =
     let head = c.args.head.now in
     let base = c.args.base.now in
     let plan = c.in_ok-plan.plan in
     let changes = c.in_ok-lmcs.lmcs in
     let l2 = c.read_changes.new.lines in
-    let fault = c.in_err-expect_line.field-0.0 in
-    let p = err_from_is_err_and c.from_residual-in_err-expect_line.result c.from_residual-in_err-expect_line.ensures.1 in
+    let fault = c.in_err-expect_last.field-0.0 in
+    let p = err_from_is_err_and c.from_residual-in_err-expect_last.result c.from_residual-in_err-expect_last.ensures.1 in
     rw (p.1, p.2) (λ version h f.
     let end = to_end head base h f c.args.lines.now c.read_plan_for.new.lines l2 plan changes c.in_ok-plan.ensures.plan c.in_ok-plan.ensures.read c.in_ok-lmcs.ensures in
-    end.0.fails fault (fails_at_last (ends version head base (option_to_list plan) changes) (version, row_with head base plan changes) end.1 l2 fault c.in_err-expect_line.ensures.refused))
-
-pub returns-then-not-is_empty-clause-refused : goal.returns-then-not-is_empty-clause-refused
-returns-then-not-is_empty-clause-refused c =
-    let head = c.args.head.now in
-    let base = c.args.base.now in
-    let plan = c.in_ok-plan.plan in
-    let changes = c.in_ok-lmcs.lmcs in
-    let l2 = c.read_changes.new.lines in
-    let l3 = c.expect_line.new.lines in
-    let some : length l3.rest.now ≡ 0 → ⊥ = λ none. false≢true (sym c.if-not-is_empty.true ∙ c.is_empty.ensures ∙ eq-eqb (length l3.rest.now) 0 none) in
-    λ version h f.
-    let end = to_end head base h f c.args.lines.now c.read_plan_for.new.lines l2 plan changes c.in_ok-plan.ensures.plan c.in_ok-plan.ensures.read c.in_ok-lmcs.ensures in
-    end.0.fails (Line l3.number) (fails_behind_last (ends version head base (option_to_list plan) changes) (version, row_with head base plan changes) end.1 l2 l3 c.in_ok-expect_line.ensures.read c.in_ok-expect_line.ensures.counted some)
+    end.0.fails fault (fails_at_last (ends version head base (option_to_list plan) changes) (version, row_with head base plan changes) end.1 l2 fault c.in_err-expect_last.ensures.refused))
 
 pub returns-clause-read : goal.returns-clause-read
 returns-clause-read c =
@@ -53,9 +37,7 @@ returns-clause-read c =
     let plan = c.in_ok-plan.plan in
     let changes = c.in_ok-lmcs.lmcs in
     let l2 = c.read_changes.new.lines in
-    let l3 = c.expect_line.new.lines in
-    let none = eqb-true (length l3.rest.now) 0 (sym c.is_empty.ensures ∙ c.if-not-is_empty.false) in
     λ version h f.
     let end = to_end head base h f c.args.lines.now c.read_plan_for.new.lines l2 plan changes c.in_ok-plan.ensures.plan c.in_ok-plan.ensures.read c.in_ok-lmcs.ensures in
     let said : Said = (version, row_with head base plan changes) in
-    end.0.read said end.1 (read_last (ends version head base (option_to_list plan) changes) said end.1 l2 l3 c.in_ok-expect_line.ensures.read none)
+    end.0.read said end.1 (read_last (ends version head base (option_to_list plan) changes) said end.1 l2 c.in_ok-expect_last.ensures.read)

@@ -3,7 +3,9 @@ use Rattle.mass_units.specs.Spelling.{number_text}
 use Rattle.text_lines.specs.Names.{IsNamed}
 use Rattle.text_lines.specs.WordRuns.{run_text, name_text}
 use Rattle.text_lines.proofs.RunLemmas.{run_text-begins}
-use Rattle.problem_text.proofs.LimitLemmas.{names_are_read, combined_line-is, run_is_some, some_in_run}
+use Rattle.text_lines.proofs.NameRuns.{names_are_read}
+use Rattle.problem_text.proofs.LimitLemmas.{run_is_some, some_in_run}
+use Rattle.problem_text.proofs.LineLemmas.{combined_line-is}
 use Rattle.problem_text.proofs.limit_readers.read_combined.Goals as goal
 
 pub returns-clause-found : goal.returns-clause-found

@@ -1,16 +1,15 @@
-use Rattle.std.proofs.Common.{◌∷◌, ◌++◌, ◌∙◌, ap, codes}
 use Rattle.problem_text.proofs.limit_readers.read_cumulative.Goals as goal
+
+pub returns-in_err-forward-clause-none : goal.returns-in_err-forward-clause-none
+returns-in_err-forward-clause-none c =
+    rw c.from_residual.ensures (λ limit s e. c.in_err-forward.ensures.none (limit.forward, (limit.place, limit.most)) (tt, (s.place, s.most)) e)
 
 pub returns-clause-found : goal.returns-clause-found
 returns-clause-found c =
-    let place = c.in_ok-place.ensures.found in
-    let most = c.in_ok-read_number.ensures.some in
-    let forward = c.in_ok-forward.forward in
-    let end = c.in_ok-forward.ensures.found in
-    let rest = c.in_ok-name.ensures.found.0 ∙ (λ i. place.2 i ++ 32 ∷ most.1 i) in
+    let read = c.in_ok-forward.ensures.found in
     record {
-      said = record { forward = forward; place = place.0; most = record { 0 = c.in_ok-read_number.field-0 } };
-      kept = λ i. record { forward = forward; place = place.3 i; most = record { 0 = c.in_ok-read_number.field-0 } };
-      right = record { place = place.1; most = most.0 };
-      is = c.in_ok-after_prefix.ensures.found ∙ ap (λ t. codes "cumulative " ++ t) (c.in_ok-end.ensures.found.0 ∙ (λ i. end i ++ 32 ∷ rest i));
+      said = record { forward = read.said.0; place = read.said.1.0; most = read.said.1.1 };
+      kept = λ i. record { forward = (read.kept i).0; place = (read.kept i).1.0; most = (read.kept i).1.1 };
+      right = record { place = read.right.1.0; most = read.right.1.1 };
+      is = read.is;
     }

@@ -6,7 +6,7 @@ use Rattle.text_lines.specs.Names.{byte_of}
 use Rattle.text_lines.specs.WordRuns.{run_text, name_text}
 use Rattle.text_lines.proofs.RunLemmas.{run_again, run_text-push, no_more}
 use Rattle.text_lines.proofs.SectionLemmas.{map-push}
-use Rattle.problem_text.proofs.LimitLemmas.{names_are_read}
+use Rattle.text_lines.proofs.NameRuns.{names_are_read}
 use Rattle.problem_text.proofs.limit_readers.read_positions.Goals as goal
 
 pub returns-in_default-clause-none : goal.returns-in_default-clause-none

@@ -3,7 +3,7 @@ use Rattle.std.proofs.lemmas.List.{append_assoc}
 use Rattle.mass_units.specs.Spelling.{number_text}
 use Rattle.mass_units.proofs.SpellingLemmas.{number_text-avoids}
 use Rattle.text_lines.proofs.CutLemmas.{cut_once}
-use Rattle.text_lines.proofs.SpelledWords.{kind_avoids}
+use Rattle.text_lines.specs.SpelledWords.{kind_avoids}
 use Rattle.problem_text.proofs.position_reader.next_fit.Goals as goal
 
 pub returns-in_err-read_number-clause-read_back : goal.returns-in_err-read_number-clause-read_back

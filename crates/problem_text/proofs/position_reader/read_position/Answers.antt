@@ -4,7 +4,7 @@ use Rattle.mass_units.specs.Spelling.{number_text, signed_text}
 use Rattle.mass_units.proofs.SpellingLemmas.{number_text-avoids, signed_text-avoids}
 use Rattle.problem_text.specs.WordRuns.{fit_text}
 use Rattle.text_lines.specs.WordRuns.{run_text}
-use Rattle.text_lines.proofs.SpelledWords.{name_avoids}
+use Rattle.text_lines.specs.SpelledWords.{name_avoids}
 use Rattle.text_lines.proofs.NameLemmas.{none_unless}
 use Rattle.problem_text.proofs.PositionLemmas.{position_line-is, position_found, spelled_fits, fits_begin}
 use Rattle.problem_text.proofs.position_reader.read_position.Goals as goal

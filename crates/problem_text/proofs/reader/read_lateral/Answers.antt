@@ -35,4 +35,4 @@ returns-in-One-clause-read c = rw c.in-One.is (absent refl refl)
 pub returns-in_ok-most-in-Two-clause-read : goal.returns-in_ok-most-in-Two-clause-read
 returns-in_ok-most-in-Two-clause-read c =
     let line = c.in_ok-most-in-Two.ensures.read in
-    rw (c.in-Two.is, c.from.ensures) (present _ c.read_section.new.lines c.in_ok-sides-in-Two.ensures line.1 line.0 c.in_ok-most-in-Two.ensures.counted)
+    rw (c.in-Two.is, c.from.ensures) (present _ c.read_section.new.lines c.in_ok-sides-in-Two.ensures line.0 line.1 c.in_ok-most-in-Two.ensures.counted)

@@ -3,15 +3,14 @@ use Rattle.std.proofs.lemmas.Result.{err_from_is_err_and}
 use Rattle.text_lines.specs.Grammar.Fails.{no_memory}
 use Rattle.text_lines.specs.declared.fault.LineFault.TheVariants.{NoMemory}
 use Rattle.text_lines.proofs.PartSteps.{whole_part}
-use Rattle.text_lines.proofs.Rests.{SaysOne, fails_at}
+use Rattle.text_lines.proofs.Rests.{fails_at}
 use Rattle.problem_text.specs.TaskText.{position_line, IsSpelledPosition}
 use Rattle.problem_text.specs.Reading.{IsVersionLine}
-use Rattle.problem_text.specs.Grammar.{version_line}
 use Rattle.problem_text.specs.Refusals.IsRefused.{wrong_lines}
 use Rattle.problem_text.specs.Parts.{AreSections}
 use Rattle.problem_text.specs.declared.parts.Parts.{Parts}
 use Rattle.problem_text.proofs.RefusalLemmas.{empty_task, empty_is, fails_text}
-use Rattle.problem_text.proofs.TaskParts.{IsAnyVersion, starts_with_version, to_limits}
+use Rattle.problem_text.proofs.TaskParts.{starts_with_version, to_limits}
 use Rattle.problem_text.proofs.ReadLemmas.{fails_before_last, read_to_last, task_read, task_kept}
 use Rattle.problem_text.proofs.reader.read_parts.Goals as goal
 
@@ -35,9 +34,8 @@ returns-in_err-sections-clause-refused c =
     let l1 = c.next_version.new.lines in
     let l2 = c.read_section.new.lines in
     let version = c.in_ok-version.version in
-    let header : SaysOne version_line IsAnyVersion l0 l1 version = record { right = tt; read = c.in_ok-version.ensures.read; counted = c.in_ok-version.ensures.counted } in
     let part = whole_part position_line IsSpelledPosition l1.rest.now l2.rest.now l1.number l2.number ps c.in_ok-positions.ensures in
-    let to_here = to_limits l2 version header part in
+    let to_here = to_limits l0 l1 l2 version c.in_ok-version.ensures.read c.in_ok-version.ensures.counted part in
     let fault = c.in_err-sections.field-0.0 in
     let p = err_from_is_err_and c.from_residual-in_err-sections.result c.from_residual-in_err-sections.ensures.1 in
     rw (p.1, p.2) (wrong_lines fault (fails_text c.args.text.now l0 fault c.new-lines.ensures.whole c.new-lines.ensures.first (to_here.fails fault (rw (sym c.deref.ensures.value) c.in_err-sections.ensures.refused))))
@@ -49,9 +47,8 @@ returns-in_err-indices-clause-refused c =
     let l1 = c.next_version.new.lines in
     let l2 = c.read_section.new.lines in
     let version = c.in_ok-version.version in
-    let header : SaysOne version_line IsAnyVersion l0 l1 version = record { right = tt; read = c.in_ok-version.ensures.read; counted = c.in_ok-version.ensures.counted } in
     let part = whole_part position_line IsSpelledPosition l1.rest.now l2.rest.now l1.number l2.number ps c.in_ok-positions.ensures in
-    let to_here = to_limits l2 version header part in
+    let to_here = to_limits l0 l1 l2 version c.in_ok-version.ensures.read c.in_ok-version.ensures.counted part in
     let l3 = c.read_sections.new.lines in
     let got = c.in_ok-sections.sections in
     let sections : AreSections version ps l2 l3 got = rw (sym c.deref.ensures.value) c.in_ok-sections.ensures.read in
@@ -67,9 +64,8 @@ returns-clause-read c =
     let l1 = c.next_version.new.lines in
     let l2 = c.read_section.new.lines in
     let version = c.in_ok-version.version in
-    let header : SaysOne version_line IsAnyVersion l0 l1 version = record { right = tt; read = c.in_ok-version.ensures.read; counted = c.in_ok-version.ensures.counted } in
     let part = whole_part position_line IsSpelledPosition l1.rest.now l2.rest.now l1.number l2.number ps c.in_ok-positions.ensures in
-    let to_here = to_limits l2 version header part in
+    let to_here = to_limits l0 l1 l2 version c.in_ok-version.ensures.read c.in_ok-version.ensures.counted part in
     let l3 = c.read_sections.new.lines in
     let got = c.in_ok-sections.sections in
     let sections : AreSections version ps l2 l3 got = rw (sym c.deref.ensures.value) c.in_ok-sections.ensures.read in
