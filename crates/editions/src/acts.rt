@@ -12,14 +12,14 @@ pub fn key_of(request: &Request) -> FlightKey
 {
     match request {
         Request::NewFlight { leg } => FlightKey::of(leg),
-        Request::Set { key, .. } => key.copy(),
-        Request::Take { key, .. } => key.copy(),
-        Request::Install { key, .. } => key.copy(),
-        Request::Release { key, .. } => key.copy(),
-        Request::Late { key, .. } => key.copy(),
-        Request::Reopen { key, .. } => key.copy(),
-        Request::Depart { key, .. } => key.copy(),
-        Request::Show { key, .. } => key.copy(),
+        Request::Set { key, .. } => *key,
+        Request::Take { key, .. } => *key,
+        Request::Install { key, .. } => *key,
+        Request::Release { key, .. } => *key,
+        Request::Late { key, .. } => *key,
+        Request::Reopen { key, .. } => *key,
+        Request::Depart { key, .. } => *key,
+        Request::Show { key, .. } => *key,
     }
 }
 

@@ -43,7 +43,7 @@ fn in_work(alloc: Global, flight: &FlightState, base: Figures) -> FlightState
     ensures { result ≡ record flight.now { edition = flight.now.edition + 1; stage = Working; base = base; plan = None; lmcs = [] } }
 {
     FlightState {
-        leg: flight.leg.copy(),
+        leg: flight.leg,
         edition: flight.edition + 1,
         stage: Stage::Working,
         base,
@@ -107,7 +107,7 @@ fn answer_install(
         return Ok(Answer::Refused(Refusal::OtherTask));
     }
     let next = FlightState {
-        leg: flight.leg.copy(),
+        leg: flight.leg,
         edition: flight.edition,
         stage: Stage::Planned,
         base: effective(alloc, flight)?,
@@ -134,7 +134,7 @@ fn releases_after(flight: &FlightState) -> u32
 fn released(alloc: Global, flight: &FlightState) -> Result<FlightState, NoMemory>
     ensures { IfOk result (λ next. next ≡ step flight.now (act.Release 0)) }
 {
-    let mut next = flight.copy(alloc)?;
+    let mut next = flight.clone()?;
     next.stage = Stage::Released;
     next.releases = releases_after(flight);
     Ok(next)
@@ -226,7 +226,7 @@ fn answer_depart(alloc: Global, flight: &FlightState, edition: u32) -> Result<An
     if let Some(refusal) = not_released(flight) {
         return Ok(Answer::Refused(refusal));
     }
-    let mut next = flight.copy(alloc)?;
+    let mut next = flight.clone()?;
     next.stage = Stage::Departed;
     Ok(Answer::Changed(next, Reply::Edition(flight.edition)))
 }
@@ -291,7 +291,7 @@ fn answer_new(alloc: Global, fleet: &[Aircraft], full: bool, leg: &Leg) -> Resul
     if full {
         return Ok(Answer::Refused(Refusal::OfficeFull));
     }
-    let next = new_flight(alloc, a, leg.copy());
+    let next = new_flight(alloc, a, *leg);
     Ok(Answer::Changed(next, Reply::Opened(FlightKey::of(leg))))
 }
 

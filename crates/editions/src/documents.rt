@@ -18,7 +18,7 @@ use aircraft_file::Aircraft;
 use base_words::NoMemory;
 use flight_history::Reply;
 use flight_row::write_row;
-use flight_state::{FlightState, effective};
+use flight_state::{FlightState, effective, effective_figures};
 use keeper::Bytes;
 use last_minute::sheet_of;
 use std::alloc::Global;
@@ -76,7 +76,7 @@ pub fn broken_by(alloc: Global, a: &Aircraft, flight: &FlightState) -> Result<Ru
     requires { HasBalance a.now flight.now }
     ensures { IfOk result (λ rules. AreBroken a.now (effective flight.now) (path_of flight.now) rules.items) }
 {
-    let figures = effective(alloc, flight)?;
+    let figures = effective_figures(alloc, flight)?;
     Ok(rules_broken(a, flight, &figures))
 }
 

@@ -181,7 +181,7 @@ fn add_flight(
     let Some(a) = aircraft_of(fleet, &state.leg) else {
         unreachable!();
     };
-    let copy = state.copy(alloc)?;
+    let copy = state.clone()?;
     let flight = prepared(alloc, a, copy)?;
     let key = FlightKey::of(&state.leg);
     flights.reserve(&key)?;

@@ -11,7 +11,6 @@ use crate::request::replaced;
 use base_words::NoMemory;
 use flight_state::{FlightState, Lmcs, Stage, can_add, effective, with_change};
 use hold_limits::Path;
-use hold_parts::Copyable;
 use std::alloc::Global;
 use trim::Figures;
 
@@ -176,7 +175,7 @@ fn base_after(
 {
     let place = last_fold(entries);
     if place == 0 {
-        Ok(Some(opened.base.copy(alloc)?))
+        Ok(Some(opened.base.clone()?))
     } else {
         figures_after(alloc, opened, &entries[..place])
     }
@@ -193,7 +192,7 @@ fn lates_with(alloc: Global, lates: Lmcs, act: &Act) -> Result<Option<Lmcs>, NoM
         return Ok(None);
     }
     let mut lates = lates;
-    lates.push(lmc.copy(alloc)?)?;
+    lates.push(*lmc)?;
     Ok(Some(lates))
 }
 
@@ -221,7 +220,7 @@ fn lates_after(
 {
     let place = last_fold(entries);
     if place == 0 {
-        lates_then(alloc, opened.lmcs.copy(alloc)?, entries)
+        lates_then(alloc, opened.lmcs.clone()?, entries)
     } else {
         lates_then(alloc, Lmcs::new(alloc), &entries[place..])
     }
@@ -291,7 +290,7 @@ pub fn standing_after(
         return Ok(None);
     };
     Ok(Some(FlightState {
-        leg: opened.leg.copy(),
+        leg: opened.leg,
         edition,
         stage: stage_after(opened, entries),
         base,

@@ -6,7 +6,6 @@ ghost use Rattle.flight_history.specs.Step.{replaced};
 use base_words::NoMemory;
 use cert_checker::Proven;
 use flight_state::{FlightKey, Leg, Lmc};
-use hold_parts::copied;
 use payload::Cabin;
 use std::alloc::Global;
 use trim::{Dry, Figures, Fuel, Items, LooseList, Regulated};
@@ -96,13 +95,9 @@ pub fn replaced(alloc: Global, figures: Figures, part: &FigurePart) -> Result<Fi
         FigurePart::Dry(dry) => figures.dry = *dry,
         FigurePart::Fuel(fuel) => figures.fuel = *fuel,
         FigurePart::Limits(limits) => figures.regulated = *limits,
-        FigurePart::Cabin(cabin) => figures.cabin = Cabin::from(cabin.counts().to_vec(alloc)?),
-        FigurePart::Containers(items) => {
-            figures.containers = Items::from(copied(alloc, items.as_slice())?);
-        }
-        FigurePart::Loose(loads) => {
-            figures.loose = LooseList::from(copied(alloc, loads.as_slice())?);
-        }
+        FigurePart::Cabin(cabin) => figures.cabin = cabin.clone()?,
+        FigurePart::Containers(items) => figures.containers = items.clone()?,
+        FigurePart::Loose(loads) => figures.loose = loads.clone()?,
     }
     Ok(figures)
 }

@@ -126,26 +126,26 @@ const POSITIONS: &[u8] = b"11 (1, -600, false) AKE 1500
 
 /// The file's limits of the hold, as they are read: pairs, combined, cumulative and lateral ones, and the sides.
 const LIMITS_READ: &str = "[]
-[Combined { places: Places { list: [0, 1] }, most: Kg(2500) }]
+[Combined { places: ListOf { list: [0, 1] }, most: Kg(2500) }]
 [Cumulative { forward: false, place: 2, most: Kg(4500) }]
 None
 []";
 
 /// The same with a forward limit and a pair.
 const FORWARD_READ: &str = "[(0, 3)]
-[Combined { places: Places { list: [0, 1] }, most: Kg(2500) }]
+[Combined { places: ListOf { list: [0, 1] }, most: Kg(2500) }]
 [Cumulative { forward: true, place: 1, most: Kg(3000) }, Cumulative { forward: false, place: 2, most: Kg(4500) }]
 None
 []";
 
 /// The lateral limit with positions on both sides.
 const SIDES_READ: &str = "
-Some(Lateral { most: Kg(500), sides: Sides { list: [(0, true), (1, false), (2, false), (3, true)] } })
+Some(Lateral { most: Kg(500), sides: ListOf { list: [(0, true), (1, false), (2, false), (3, true)] } })
 [(0, true), (1, false), (2, false), (3, true)]";
 
 /// The lateral limit with a position on the left alone.
 const LEFT_READ: &str = "
-Some(Lateral { most: Kg(1000000), sides: Sides { list: [(4, false)] } })
+Some(Lateral { most: Kg(1000000), sides: ListOf { list: [(4, false)] } })
 [(4, false)]";
 
 /// The file's fuel table, and sides of its envelopes, as they are read.

@@ -57,7 +57,7 @@ END
 /// The figures of the flight of a row.
 fn figures_in(alloc: Global, aircraft: &Aircraft, row: &str) -> Result<Figures, Fail> {
     let flight = read_row(alloc, slice::from_ref(aircraft), row.as_bytes())?;
-    Ok(flight.base.copy(alloc)?)
+    Ok(flight.base.clone()?)
 }
 
 /// The figures of the worked day with edits of its row.

@@ -39,7 +39,7 @@ fn stations_have_three_capitals(rt: HostRuntime) {
 #[test]
 fn a_key_is_a_flight_and_a_day(rt: HostRuntime) -> Result<(), Fail> {
     let leg = leg()?;
-    let key = FlightKey::of(&leg.copy());
+    let key = FlightKey::of(&leg);
     assert_eq!(rt; key.bytes(), b"XX210-12".as_slice());
     assert!(rt; FlightKey::read(b"XX210-12").is_some_and(|read| read.bytes() == key.bytes()));
     let wrong: [&[u8]; 5] = [b"", b"XX210", b"XX21012", b"XX210-32", b"X-12"];

@@ -9,12 +9,12 @@ use Rattle.hold_parts.specs.declared.parts.Item.{Item}
 use Rattle.hold_limits.specs.BranchOrder.{ordered}
 use Rattle.hold_limits.specs.Placement.{Placed, placed_load}
 use Rattle.hold_limits.proofs.BranchOrderLemmas.{rank-is}
-use Rattle.trim.proofs.StowageLemmas.{get_or-pairs, length-pairs}
+use Rattle.hold_limits.proofs.PlacedLemmas.{get_or-pairs, length-pairs}
 use Rattle.last_minute.specs.declared.places.Stowage.{Stowage}
 use Rattle.last_minute.specs.Sheets.{IsStowage, stowed}
 
 pub length-stowed : (s : Stowage) → IsStowage s → length (stowed s) ≡ length s.path.now
-length-stowed s held = length-pairs s.items.now s.path.now held.complete
+length-stowed s held = length-pairs s.items.now s.path.now (omega (arith, held.complete))
 
 -- a container at a rank has at most 1,000,000 kg
 pub light-at : (items : List Item) (rank : ℕ) (item : Item) → All (λ (item : Item). item.mass.0 ≤ 1000000) items → rank < length items → slice_get (ordered items) rank ≡ Some item → item.mass.0 ≤ 1000000
@@ -31,7 +31,7 @@ pub drop-stowed : (s : Stowage) (rank q : ℕ) (item : Item) → IsStowage s →
 drop-stowed s rank q item held within there number =
     let inside : rank < length (stowed s) = omega (arith, length-stowed s held) in
     drop_more (stowed s) rank (item, q) inside
-    ∙ ap (λ (p : Placed). p ∷ drop (rank + 1) (stowed s)) (get_or-pairs s.items.now s.path.now rank q item (item, q) held.complete within there number)
+    ∙ ap (λ (p : Placed). p ∷ drop (rank + 1) (stowed s)) (get_or-pairs s.items.now s.path.now rank q item (item, q) (omega (arith, held.complete)) within there number)
 
 same-number : (m n : ℕ) → m ≡ n → (m == n) ≡ true
 same-number m n same = grind (arith, nat_tests)
@@ -74,7 +74,7 @@ load-next is_in s rank q item held within there number =
     let f : Placed → ℕ = λ p. if is_in p.1 then p.0.mass.0 else 0 in
     let inside : rank < length (stowed s) = omega (arith, length-stowed s held) in
     sum_by_more f (stowed s) rank (item, q) inside
-    ∙ ap (λ (p : Placed). placed_load is_in (take rank (stowed s)) + f p) (get_or-pairs s.items.now s.path.now rank q item (item, q) held.complete within there number)
+    ∙ ap (λ (p : Placed). placed_load is_in (take rank (stowed s)) + f p) (get_or-pairs s.items.now s.path.now rank q item (item, q) (omega (arith, held.complete)) within there number)
 
 pub load-here : (s : Stowage) (number rank : ℕ) (item : Item) → IsStowage s → rank < length s.path.now → slice_get (ordered s.items.now) rank ≡ Some item → get_or s.path.now rank 0 ≡ number
     → placed_load (λ other. other == number) (take (rank + 1) (stowed s)) ≡ placed_load (λ other. other == number) (take rank (stowed s)) + item.mass.0

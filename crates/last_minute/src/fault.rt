@@ -6,6 +6,7 @@ ghost use Rattle.last_minute.specs.declared.fault.LmcFault.TheVariants.{NoMemory
 use base_words::NoMemory;
 use mass_units::{Kg, Ticks};
 use payload::PayFault;
+use std::alloc::AllocError;
 use thiserror::Error;
 use trim::Rules;
 
@@ -39,6 +40,14 @@ impl From<NoMemory> for LmcFault {
     ghost from_gives = { λ _ fault. fault ≡ out_of_memory };
 
     fn from(_: NoMemory) -> LmcFault {
+        LmcFault::NoMemory
+    }
+}
+
+impl From<AllocError> for LmcFault {
+    ghost from_gives = { λ _ fault. fault ≡ out_of_memory };
+
+    fn from(_: AllocError) -> LmcFault {
         LmcFault::NoMemory
     }
 }

@@ -3,6 +3,7 @@
 ghost use Rattle.std.specs.Prelude.{◌≡◌, ◌≤◌, ◌<◌, length, All, IfOk};
 ghost use Rattle.hold_parts.specs.declared.parts.Item.{Item};
 ghost use Rattle.payload.specs.Load.{load_of};
+ghost use Rattle.flight_state.specs.Effective.{effective};
 ghost use Rattle.trim.specs.Balance.{IsBalance};
 ghost use Rattle.trim.specs.Limits.{KeepsLimits};
 ghost use Rattle.trim.specs.Loads.{container_mass};
@@ -15,7 +16,7 @@ use crate::places::places_of;
 use crate::sheet::Sheet;
 use aircraft_file::Aircraft;
 use base_words::NoMemory;
-use flight_state::{FlightState, effective};
+use flight_state::{FlightState, effective_figures};
 use hold_limits::{Item, Path};
 use mass_units::{Chord, Kg, mac_hundredths};
 use payload::{Load, cabin_load};
@@ -27,16 +28,30 @@ pub fn sheet_of(alloc: Global, a: &Aircraft, s: &FlightState) -> Result<Sheet, N
     requires { HasBalance a.now s.now }
     ensures { IfOk result (IsSheet a.now s.now) }
 {
+    let figures = effective_figures(alloc, s)?;
+    sheet_with(alloc, a, s, &figures)
+}
+
+/// The sheet of a flight, whose figures with the late changes are these.
+fn sheet_with(
+    alloc: Global,
+    a: &Aircraft,
+    s: &FlightState,
+    figures: &Figures,
+) -> Result<Sheet, NoMemory>
+    requires balance { HasBalance a.now s.now }
+    requires figures { figures.now ≡ effective s.now }
+    ensures { IfOk result (IsSheet a.now s.now) }
+{
     let Some(path) = &s.plan else {
         unreachable!();
     };
-    let figures = effective(alloc, s)?;
-    let balance = balance_of(a, &figures, path);
-    let cabin = cabin_of(a, &figures);
+    let balance = balance_of(a, figures, path);
+    let cabin = cabin_of(a, figures);
     let loads = loads_told(alloc, a, figures.loose.as_slice())?;
     Ok(Sheet {
-        leg: s.leg.copy(),
-        version: a.version().copy(),
+        leg: s.leg,
+        version: *a.version(),
         edition: s.edition,
         dry: figures.dry,
         fuel: figures.fuel,
@@ -50,8 +65,8 @@ pub fn sheet_of(alloc: Global, a: &Aircraft, s: &FlightState) -> Result<Sheet, N
         loose_mass: Kg(mass_of_loads(loads.as_slice())),
         balance,
         mac: centres_of(&balance, a.chord()),
-        places: places_of(alloc, a, &figures, path, loads.as_slice())?,
-        lmcs: s.lmcs.copy(alloc)?,
+        places: places_of(alloc, a, figures, path, loads.as_slice())?,
+        lmcs: s.lmcs.clone()?,
     })
 }
 

@@ -16,7 +16,6 @@ use crate::unplaced::{Unplaced, weigh_unplaced};
 use aircraft_file::Aircraft;
 use flight_state::{FlightState, Lmc, can_add, changed_load, effective, with_change};
 use hold_limits::Name;
-use hold_parts::Copyable;
 use mass_units::{Kg, Ticks};
 use payload::{cabin_load, loose_mass};
 use std::alloc::Global;
@@ -142,8 +141,8 @@ fn with_one_more(alloc: Global, s: &FlightState, l: &Lmc) -> Result<FlightState,
     ensures changed { IfOk result (λ next. next ≡ next_state s.now l.now) }
     ensures refused { IfErr result (λ fault. fault ≡ LmcFault.NoMemory) }
 {
-    let mut next = s.copy(alloc)?;
+    let mut next = s.clone()?;
     next.edition += 1;
-    next.lmcs.push(l.copy(alloc)?)?;
+    next.lmcs.push(*l)?;
     Ok(next)
 }

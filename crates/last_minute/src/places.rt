@@ -61,21 +61,23 @@ impl Stowage<'_> {
     {
         let mut places = Vec::new(alloc);
         for (number, position) in positions.iter().enumerate() {
-            places.push(self.place(number as u8, position))?;
+            let id = self.container_on(number as u8);
+            places.push(self.place(number as u8, position, id))?;
         }
         Ok(PlaceList::from(places))
     }
 
     /// The position with what stands on it.
-    fn place(&self, number: u8, position: &Position) -> Place
-        requires { IsStowage self.now }
+    fn place(&self, number: u8, position: &Position, id: Option<UldId>) -> Place
+        requires stowage { IsStowage self.now }
+        requires id { id ≡ option_map (λ (p : Placed). p.0.id) (find (λ (p : Placed). p.1 == number) (stowed self.now)) }
         ensures { result ≡ place_on (stowed self.now) self.now.loose.now (number, position.now) }
     {
         Place {
-            name: position.name.copy(),
+            name: position.name,
             compartment: position.compartment,
             bulk: position.bulk,
-            id: self.container_on(number),
+            id,
             mass: Kg(self.mass_of_containers_on(number) + self.mass_of_loose_on(number)),
         }
     }
@@ -87,7 +89,7 @@ impl Stowage<'_> {
     {
         for rank in 0..self.path.len() {
             if self.path[rank] == number {
-                return Some(item_at(self.items, self.order, rank).id.copy());
+                return Some(item_at(self.items, self.order, rank).id);
             }
         }
         None

@@ -38,7 +38,7 @@ pub fn weigh_unplaced(alloc: Global, a: &Aircraft, f: &Figures) -> Result<Unplac
     ensures light { IfOk result (λ load. load.mass ≤ 100000000) }
     ensures near { IfOk result (λ load. unsigned_abs load.index ≤ 1000000000000000000) }
 {
-    let counts = f.cabin.counts();
+    let counts = f.cabin.as_slice();
     let loads = loads_told(alloc, a, f.loose.as_slice())?;
     Ok(Unplaced {
         mass: mass_of_counts(counts, a.averages()) + mass_of_loads(loads.as_slice()),

@@ -18,26 +18,26 @@ pub prepared-requires : goal.prepared-requires
 prepared-requires c =
     let found : aircraft_of c.args.fleet.now c.args.state.now.leg ≡ Some c.in-Some.a.now = sym c.aircraft_of.ensures.found ∙ ap (λ o. option_copied o) c.in-Some.is in
     let ready = sound-as c.args.fleet.now c.args.state.now c.in-Some.a.now c.requires.sound found in
-    subst (λ (s : FlightState). HasRow c.in-Some.a.now s) (sym c.in_ok-copy.ensures) ready.row
+    subst (λ (s : FlightState). HasRow c.in-Some.a.now s) (sym c.in_ok-copy.ensures.cases) ready.row
 
 pub reserve-requires : goal.reserve-requires
 reserve-requires c = subst (λ (k : List ℕ). IsPlaceOf (states c.args.flights.now.flights) k None) (sym c.of-key.ensures) c.requires.place
 
 pub put-requires-clause-place : goal.put-requires-clause-place
 put-requires-clause-place c =
-    let state = c.in_ok-flight.ensures.state ∙ c.in_ok-copy.ensures in
+    let state = c.in_ok-flight.ensures.state ∙ c.in_ok-copy.ensures.cases in
     place-kept c.args.flights.now.flights c.reserve.new.self.flights (key_of c.args.state.now.leg) None c.args.state.now c.in_ok-flight.flight c.reserve.ensures.same state refl c.requires.place
 
 pub put-requires-clause-room : goal.put-requires-clause-room
 put-requires-clause-room c =
-    let state = c.in_ok-flight.ensures.state ∙ c.in_ok-copy.ensures in
+    let state = c.in_ok-flight.ensures.state ∙ c.in_ok-copy.ensures.cases in
     room-kept c.reserve.new.self (key_of c.args.state.now.leg) None c.args.state.now c.in_ok-flight.flight state refl (subst (IsReserved c.reserve.new.self) c.of-key.ensures c.in_ok-reserve.ensures.reserved)
 
 pub returns : goal.returns
 returns c =
     let found : aircraft_of c.args.fleet.now c.args.state.now.leg ≡ Some c.in-Some.a.now = sym c.aircraft_of.ensures.found ∙ ap (λ o. option_copied o) c.in-Some.is in
-    let state = c.in_ok-flight.ensures.state ∙ c.in_ok-copy.ensures in
-    let task = subst (λ (s : FlightState). IsTaskAnswer c.in-Some.a.now s c.in_ok-flight.flight.task) c.in_ok-copy.ensures c.in_ok-flight.ensures.task in (
+    let state = c.in_ok-flight.ensures.state ∙ c.in_ok-copy.ensures.cases in
+    let task = subst (λ (s : FlightState). IsTaskAnswer c.in-Some.a.now s c.in_ok-flight.flight.task) c.in_ok-copy.ensures.cases c.in_ok-flight.ensures.task in (
       c.in_ok-flight.flight,
       state,
       kept-flight c.args.fleet.now c.in-Some.a.now c.args.state.now c.in_ok-flight.flight c.requires.sound found state task,

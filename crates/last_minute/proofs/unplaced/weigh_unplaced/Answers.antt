@@ -25,9 +25,9 @@ added c = to_z-of_z w64 _ (fits_signed_from_abs w64 _ (omega (arith, ints, c.ind
 counts_told : (c : goal.After-drop-loads) → c.index_of_counts.result ≡ cabin_index c.args.a.now.averages c.args.a.now.zones c.args.f.now.cabin
 counts_told c =
     c.index_of_counts.ensures.index
-    ∙ ap (λ (averages : Averages). cabin_index averages c.zones.result.now c.counts-counts.result.now) c.averages-2.ensures.value
-    ∙ ap (λ (zones : List Zone). cabin_index c.args.a.now.averages zones c.counts-counts.result.now) c.zones.ensures.value
-    ∙ ap (λ (cabin : List ZoneCount). cabin_index c.args.a.now.averages c.args.a.now.zones cabin) c.counts-counts.ensures
+    ∙ ap (λ (averages : Averages). cabin_index averages c.zones.result.now c.as_slice-counts.result.now) c.averages-2.ensures.value
+    ∙ ap (λ (zones : List Zone). cabin_index c.args.a.now.averages zones c.as_slice-counts.result.now) c.zones.ensures.value
+    ∙ ap (λ (cabin : List ZoneCount). cabin_index c.args.a.now.averages c.args.a.now.zones cabin) c.as_slice-counts.ensures
 
 loads_told : (c : goal.After-drop-loads) → c.index_of_loads.result ≡ int_sum_by (loose_moment c.args.a.now.hold) (loose_loads c.args.a.now c.args.f.now)
 loads_told c =
