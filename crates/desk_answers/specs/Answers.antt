@@ -1,7 +1,9 @@
 -- what a desk is answered to the replies of the office
-use Rattle.std.specs.Prelude.{◌≡◌, ◌⊎◌, ℕ, List, true, false, codes, unsigned_abs, Option, None, Some, Result, Ok, Err}
+use Rattle.std.specs.Prelude.{◌≡◌, ◌⊎◌, ℕ, List, true, false, codes, unsigned_abs, Result, Ok, Err}
 use Rattle.serde_json.specs.Data.{Data, no_members, Members}
 use Rattle.serde_json.specs.Written.{compact_text}
+use Rattle.text_lines.specs.Lines.{text_of}
+use Rattle.problem_text.specs.TaskText.{task_lines}
 use Rattle.trim.specs.declared.fault.TrimFault.{TrimFault}
 use Rattle.trim.specs.declared.fault.TrimFault.TheVariants as trim
 use Rattle.last_minute.specs.declared.fault.LmcFault.{LmcFault}
@@ -77,15 +79,15 @@ document_text Loadsheet sheet = sheet_text sheet
 document_text LoadMessage sheet = ldm_text (ldm_of sheet)
 document_text ContainerMessage sheet = cpm_text (cpm_of sheet)
 
--- the answer to a reply, which shows this document where it has a sheet; a task has none, since it is planned
-abbrev pub answer_to : Document → Reply → Option Answer
-answer_to document (says.Opened key) = Some (json_answer 201 (opened_value key))
-answer_to document (says.Edition edition) = Some (json_answer 200 (edition_value edition))
-answer_to document (says.Row row) = Some (text_answer row)
-answer_to document (says.Sheet sheet) = Some (text_answer (document_text document sheet))
-answer_to document (says.Task task) = None
-answer_to document (says.Refused refusal) = Some (refused_answer refusal)
-answer_to document says.NoMemory = Some (error_answer plain.Memory)
+-- the answer to a reply, which shows this document where it has a sheet
+abbrev pub answer_to : Document → Reply → Answer
+answer_to document (says.Opened key) = json_answer 201 (opened_value key)
+answer_to document (says.Edition edition) = json_answer 200 (edition_value edition)
+answer_to document (says.Row row) = text_answer row
+answer_to document (says.Sheet sheet) = text_answer (document_text document sheet)
+answer_to document (says.Task task) = text_answer (text_of (task_lines task))
+answer_to document (says.Refused refusal) = refused_answer refusal
+answer_to document says.NoMemory = error_answer plain.Memory
 
 -- what is answered: an answer, or an error in one word
 abbrev pub answered : Result Answer PlainError → Answer
@@ -93,5 +95,5 @@ answered (Ok answer) = answer
 answered (Err error) = error_answer error
 
 -- it is this answer, unless memory ran out
-abbrev pub IsAnswered : Option Answer → Result Answer PlainError → Type 0
-IsAnswered due result = (result ≡ Err plain.Memory) ⊎ (due ≡ Some (answered result))
+abbrev pub IsAnswered : Answer → Result Answer PlainError → Type 0
+IsAnswered due result = (result ≡ Err plain.Memory) ⊎ (due ≡ answered result)

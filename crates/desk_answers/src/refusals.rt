@@ -1,6 +1,6 @@
 //! The answers to what the office refuses.
 
-ghost use Rattle.std.specs.Prelude.{codes, Some};
+ghost use Rattle.std.specs.Prelude.{codes};
 ghost use Rattle.desk_answers.specs.Answers.{IsAnswered, json_answer, late_members, refused_answer, trim_members};
 ghost use Rattle.desk_answers.specs.Words.{error_value};
 
@@ -14,7 +14,7 @@ use trim::TrimFault;
 
 /// The answer to a refused late change.
 fn late_error(alloc: Global, fault: &LmcFault) -> Result<Answer, PlainError>
-    ensures { IsAnswered (Some (json_answer 422 (error_value (codes "lmc") (late_members fault.now)))) result }
+    ensures { IsAnswered (json_answer 422 (error_value (codes "lmc") (late_members fault.now))) result }
 {
     let answer = match fault {
         LmcFault::TooMany => reason_error(alloc, "lmc", 1)?,
@@ -30,7 +30,7 @@ fn late_error(alloc: Global, fault: &LmcFault) -> Result<Answer, PlainError>
 
 /// The answer where there is no task.
 fn trim_error(alloc: Global, fault: TrimFault) -> Result<Answer, PlainError>
-    ensures { IsAnswered (Some (json_answer 422 (error_value (codes "trim") (trim_members fault)))) result }
+    ensures { IsAnswered (json_answer 422 (error_value (codes "trim") (trim_members fault))) result }
 {
     let answer = match fault {
         TrimFault::FuelOut(fuel) => value_error(alloc, "trim", 1, u64::from(fuel.0))?,
@@ -45,7 +45,7 @@ fn trim_error(alloc: Global, fault: TrimFault) -> Result<Answer, PlainError>
 
 /// The answer to a refusal.
 pub fn refused_answer(alloc: Global, refusal: &Refusal) -> Result<Answer, PlainError>
-    ensures { IsAnswered (Some (refused_answer refusal.now)) result }
+    ensures { IsAnswered (refused_answer refusal.now) result }
 {
     match refusal {
         Refusal::Exists => Err(PlainError::Exists),

@@ -15,6 +15,7 @@ use keeper::Bytes;
 use last_minute::Sheet;
 use ldm_cpm::{write_cpm, write_ldm};
 use loadsheet_text::write_sheet;
+use problem_text::write_task;
 use std::alloc::Global;
 use std::str;
 
@@ -47,8 +48,7 @@ fn key_answer(alloc: Global, key: &FlightKey) -> Result<Answer, NoMemory>
     opened_answer(alloc, key_text(key))
 }
 
-/// The answer to a reply, which shows the document where it has a sheet. A task has no answer of its own, since it is
-/// planned; here it counts as out of memory.
+/// The answer to a reply, which shows the document where it has a sheet.
 pub fn answer_to(alloc: Global, document: Document, reply: Reply) -> Result<Answer, PlainError>
     ensures { IsAnswered (answer_to document reply) result }
 {
@@ -57,7 +57,8 @@ pub fn answer_to(alloc: Global, document: Document, reply: Reply) -> Result<Answ
         Reply::Edition(edition) => Ok(edition_answer(alloc, edition)?),
         Reply::Row(row) => Ok(Answer::text(row)),
         Reply::Sheet(sheet) => Ok(Answer::text(document_text(alloc, document, &sheet)?)),
-        Reply::Task(_) | Reply::NoMemory => Err(PlainError::Memory),
+        Reply::Task(task) => Ok(Answer::text(Bytes::from(write_task(alloc, &task)?))),
         Reply::Refused(refusal) => refused_answer(alloc, &refusal),
+        Reply::NoMemory => Err(PlainError::Memory),
     }
 }

@@ -1,5 +1,5 @@
 -- what the calls of one request make of the history
-use Rattle.std.proofs.Common.{◌≡◌, ◌⊎◌, ◌+◌, ◌<◌, ◌≤◌, ℕ, true, false, List, [], ◌∷◌, ◌++◌, length, Option, Result, Ok, Err, refl, sym, ap, ◌∙◌, arith, append-nil, append_assoc, length-append, inl, inr}
+use Rattle.std.proofs.Common.{◌≡◌, ◌⊎◌, ◌+◌, ◌<◌, ◌≤◌, ℕ, true, false, List, [], ◌∷◌, ◌++◌, length, Result, Ok, Err, refl, sym, ap, ◌∙◌, arith, append-nil, append_assoc, length-append, inl, inr}
 use Rattle.std.specs.List.{All}
 use Rattle.std.proofs.lemmas.List.Elements.{All-weaker}
 use Rattle.hold_limits.specs.Problem.{Problem}
@@ -27,7 +27,7 @@ use Rattle.desk_service.proofs.Turns as turns
 use Rattle.desk_service.proofs.Turns.{made_on}
 
 -- an answer that is due, or one that memory was lacking for
-pub is_due : (due : Option Answer) (result : Result Answer PlainError) → IsAnswered due result → IsDue due (answered result)
+pub is_due : (due : Answer) (result : Result Answer PlainError) → IsAnswered due result → IsDue due (answered result)
 is_due due result (inl out) = inl (ap answered out)
 is_due due result (inr is) = inr is
 

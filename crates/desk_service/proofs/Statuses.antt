@@ -1,12 +1,11 @@
 -- each answer has a status that is known
-use Rattle.std.proofs.Common.{◌≡◌, Some, Result, Ok, Err, IsTrue, inl, inr, arith, subst, refl}
+use Rattle.std.proofs.Common.{◌≡◌, Result, Ok, Err, IsTrue, inl, inr, arith, subst, refl}
 use Rattle.std.specs.Prelude.{IfOk}
 use Rattle.http_wire.specs.Answer.{is_answered}
 use Rattle.flight_history.specs.declared.reply.Refusal.{Refusal}
 use Rattle.flight_history.specs.declared.reply.Refusal.TheVariants as refused
 use Rattle.flight_history.specs.declared.reply.Reply.{Reply}
 use Rattle.flight_history.specs.declared.reply.Reply.TheVariants as says
-use Rattle.std.proofs.lemmas.Option.{same_Some, none-some}
 use Rattle.desk_answers.specs.Answers.{IsAnswered, answer_to, refused_answer}
 use Rattle.desk_answers.specs.declared.answer.Answer.{Answer}
 use Rattle.desk_answers.specs.declared.answer.Document.{Document}
@@ -33,14 +32,14 @@ refusal_known refused.OtherTask = refl
 refusal_known refused.Spent = refl
 refusal_known refused.KeeperFault = refl
 
-reply_known : (document : Document) (reply : Reply) (answer : Answer) → answer_to document reply ≡ Some answer → IsKnown answer
-reply_known document (says.Opened key) answer due = subst IsKnown (same_Some _ _ due) refl
-reply_known document (says.Edition edition) answer due = subst IsKnown (same_Some _ _ due) refl
-reply_known document (says.Row row) answer due = subst IsKnown (same_Some _ _ due) refl
-reply_known document (says.Sheet sheet) answer due = subst IsKnown (same_Some _ _ due) refl
-reply_known document (says.Task task) answer due = absurd (none-some answer due)
-reply_known document (says.Refused refusal) answer due = subst IsKnown (same_Some _ _ due) (refusal_known refusal)
-reply_known document says.NoMemory answer due = subst IsKnown (same_Some _ _ due) refl
+reply_known : (document : Document) (reply : Reply) (answer : Answer) → answer_to document reply ≡ answer → IsKnown answer
+reply_known document (says.Opened key) answer due = subst IsKnown due refl
+reply_known document (says.Edition edition) answer due = subst IsKnown due refl
+reply_known document (says.Row row) answer due = subst IsKnown due refl
+reply_known document (says.Sheet sheet) answer due = subst IsKnown due refl
+reply_known document (says.Task task) answer due = subst IsKnown due refl
+reply_known document (says.Refused refusal) answer due = subst IsKnown due (refusal_known refusal)
+reply_known document says.NoMemory answer due = subst IsKnown due refl
 
 -- the status of an answer to a reply is known
 pub known_status : (document : Document) (reply : Reply) (result : Result Answer PlainError) → IsAnswered (answer_to document reply) result → IfOk result IsKnown

@@ -1,6 +1,5 @@
 -- how many entries an exchange makes, and what its status says of them
 use Rattle.std.proofs.Common.{◌≡◌, ◌+◌, ◌≤◌, ◌==◌, ℕ, Bool, true, false, cond, List, [], ◌∷◌, length, Option, None, Some, Result, Ok, Err, refl, sym, ap, ◌∙◌, subst, arith, inl, inr}
-use Rattle.std.proofs.lemmas.Option.{same_Some, none-some}
 use Rattle.flight_history.specs.declared.entry.Entry.{Entry}
 use Rattle.flight_history.specs.declared.reply.Refusal.{Refusal}
 use Rattle.flight_history.specs.declared.reply.Refusal.TheVariants as no
@@ -57,14 +56,14 @@ refusal_tells no.KeeperFault = record { room = refl; fault = λ _. refl }
 tells_same : (answer other : Answer) (P : Type 0) → other ≡ answer → Tells other P → Tells answer P
 tells_same answer other P same t = subst (λ (a : Answer). Tells a P) same t
 
-reply_tells : (document : Document) (reply : Reply) (answer : Answer) → answer_to document reply ≡ Some answer → Tells answer (reply ≡ says.Refused no.KeeperFault)
-reply_tells document (says.Opened key) answer due = tells_same _ _ _ (same_Some _ _ due) (tells_otherwise _ _ _ refl refl refl)
-reply_tells document (says.Edition edition) answer due = tells_same _ _ _ (same_Some _ _ due) (tells_otherwise _ _ _ refl refl refl)
-reply_tells document (says.Row row) answer due = tells_same _ _ _ (same_Some _ _ due) (tells_otherwise _ _ _ refl refl refl)
-reply_tells document (says.Sheet sheet) answer due = tells_same _ _ _ (same_Some _ _ due) (tells_otherwise _ _ _ refl refl refl)
-reply_tells document (says.Task task) answer due = absurd (none-some answer due)
-reply_tells document (says.Refused refusal) answer due = tells_same _ _ _ (same_Some _ _ due) (refusal_tells refusal)
-reply_tells document says.NoMemory answer due = tells_same _ _ _ (same_Some _ _ due) (tells_otherwise _ _ _ refl refl refl)
+reply_tells : (document : Document) (reply : Reply) (answer : Answer) → answer_to document reply ≡ answer → Tells answer (reply ≡ says.Refused no.KeeperFault)
+reply_tells document (says.Opened key) answer due = tells_same _ _ _ due (tells_otherwise _ _ _ refl refl refl)
+reply_tells document (says.Edition edition) answer due = tells_same _ _ _ due (tells_otherwise _ _ _ refl refl refl)
+reply_tells document (says.Row row) answer due = tells_same _ _ _ due (tells_otherwise _ _ _ refl refl refl)
+reply_tells document (says.Sheet sheet) answer due = tells_same _ _ _ due (tells_otherwise _ _ _ refl refl refl)
+reply_tells document (says.Task task) answer due = tells_same _ _ _ due (tells_otherwise _ _ _ refl refl refl)
+reply_tells document (says.Refused refusal) answer due = tells_same _ _ _ due (refusal_tells refusal)
+reply_tells document says.NoMemory answer due = tells_same _ _ _ due (tells_otherwise _ _ _ refl refl refl)
 
 due_tells : (document : Document) (reply : Reply) (answer : Answer) → IsDue (answer_to document reply) answer → Tells answer (reply ≡ says.Refused no.KeeperFault)
 due_tells document reply answer (inl out) = tells_otherwise _ _ _ out refl refl

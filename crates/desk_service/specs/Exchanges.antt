@@ -1,5 +1,5 @@
 -- exchanges: what is asked of a desk, the entries that it makes for it, and what it answers
-use Rattle.std.specs.Prelude.{◌≡◌, ◌⊎◌, ◌<◌, ℕ, Bool, true, false, List, [], ◌∷◌, All, Option, Some, Result, Ok, Err}
+use Rattle.std.specs.Prelude.{◌≡◌, ◌⊎◌, ◌<◌, ℕ, Bool, true, false, List, [], ◌∷◌, All, Result, Ok, Err}
 use Rattle.hold_limits.specs.Problem.{Problem}
 use Rattle.cert_checker.specs.Certified.{Certified}
 use Rattle.placer.specs.Answers.{IfBest, IsAnswerTo}
@@ -33,8 +33,8 @@ document_of (Show key Cpm) = ContainerMessage
 document_of _ = Loadsheet
 
 -- the answer is the one that is due, or memory ran out
-abbrev pub IsDue : Option Answer → Answer → Type 0
-IsDue due answer = (answer ≡ error_answer Memory) ⊎ (due ≡ Some answer)
+abbrev pub IsDue : Answer → Answer → Type 0
+IsDue due answer = (answer ≡ error_answer Memory) ⊎ (due ≡ answer)
 
 -- a request that makes one entry: the answer is that to the reply at the entry's place
 pub record AnswersTurn (s : Setting) (desk : ℕ) (history : List Entry) (request : Request) (entries : List Placed) (answer : Answer) : Type 0 where

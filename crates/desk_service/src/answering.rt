@@ -150,16 +150,40 @@ fn answer_plan<Rt, C: Counter<Rt>, P: Placing>(
     ensures full { C.full counter.old → C.full counter.new }
     ensures follows { C.follows counter.old counter.new }
 {
-    let take = Request::Take {
-        key: key.copy(),
-        edition,
-    };
+    let take = Request::Take { key, edition };
     match counter.call(rt, alloc, take) {
         Ok(Reply::Task(task)) => {
             answer_task(rt, alloc, counter, placing, key, edition, budget, task)
         }
         Ok(reply) => answer_to(alloc, Document::Loadsheet, reply),
         Err(_) => Err(PlainError::Full),
+    }
+}
+
+/// Answers what a request asks.
+fn answer_one<Rt, C: Counter<Rt>, P: Placing>(
+    rt: &Rt,
+    alloc: Global,
+    counter: &mut C,
+    placing: &P,
+    asked: Asked,
+) -> Result<Answer, PlainError>
+    requires lawful { IsLawful asked }
+    ensures answered { Answered (C.setting counter.old) (C.desk counter.old) (C.full counter.old) (C.full counter.new)
+        (Ok asked) (answered result) (C.seen counter.old) (C.seen counter.new) }
+    ensures known { IfOk result (λ answer. IsTrue (is_answered answer.status)) }
+    ensures setting { C.setting counter.new ≡ C.setting counter.old }
+    ensures desk { C.desk counter.new ≡ C.desk counter.old }
+    ensures full { C.full counter.old → C.full counter.new }
+    ensures follows { C.follows counter.old counter.new }
+{
+    match asked {
+        Asked::Entry(request) => answer_entry(rt, alloc, counter, request),
+        Asked::Plan {
+            key,
+            edition,
+            budget,
+        } => answer_plan(rt, alloc, counter, placing, key, edition, budget),
     }
 }
 
@@ -181,14 +205,7 @@ pub fn answer_asked<Rt, C: Counter<Rt>, P: Placing>(
     ensures follows { C.follows counter.old counter.new }
 {
     match asked {
-        Ok(Asked::Entry(request)) => answer_entry(rt, alloc, counter, request),
-        Ok(
-            Asked::Plan {
-                key,
-                edition,
-                budget,
-            },
-        ) => answer_plan(rt, alloc, counter, placing, key, edition, budget),
+        Ok(asked) => answer_one(rt, alloc, counter, placing, asked),
         Err(error) => Err(error),
     }
 }

@@ -7,6 +7,7 @@ use flight_state::FlightKey;
 use keeper::Bytes;
 use last_minute::LmcFault;
 use mass_units::{Kg, Ticks};
+use problem_text::read_task;
 use std::alloc::Global;
 use std::str;
 use std::test::Fail;
@@ -146,4 +147,22 @@ fn replies_are_answered(rt: HostRuntime) -> Result<(), Fail> {
     check(alloc, Reply::Edition(12), r#"200 true {"edition":12}"#)?;
     let row = Bytes::from(b"AAA".to_vec(alloc)?);
     check(alloc, Reply::Row(row), "200 false AAA")
+}
+
+/// A task as its text.
+const TASK: &str = "TASK 1
+position 11 1 -600 AKE 1500
+item AKE10001XX 1000
+base 50.00000
+window -100.00000 100.00000
+ideal 50.00000 50.00000
+END
+";
+
+#[test]
+fn a_task_is_answered_as_its_text(rt: HostRuntime) -> Result<(), Fail> {
+    let alloc = rt.alloc();
+    let task = read_task(alloc, TASK.as_bytes())?;
+    let expected = format!(in alloc; "200 false {TASK}")?;
+    check(alloc, Reply::Task(task), expected.as_str())
 }

@@ -151,7 +151,7 @@ fn the_load_of_the_worked_day(rt: HostRuntime) -> Result<(), Fail> {
     let cabin = read_cabin(alloc, br#"{"zones":[[50,4,2],[70,6,1]]}"#)?;
     check(
         rt.alloc(),
-        Ok(cabin.counts()),
+        Ok(cabin.as_slice()),
         "Ok([ZoneCount { adults: 50, children: 4, infants: 2 }, ZoneCount { adults: 70, children: 6, infants: 1 }])",
     )?;
     let containers = read_containers(alloc, b"id,mass\nAKE10001XX,1000\nAKE10002XX,800\n")?;

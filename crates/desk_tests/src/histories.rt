@@ -119,7 +119,7 @@ fn line_of(alloc: Global, s: &FlightState) -> Result<String, AllocError> {
         s.plan.is_some(),
         s.releases,
         s.base.fuel.take_off.0,
-        s.base.cabin.counts().len(),
+        s.base.cabin.as_slice().len(),
         s.lmcs.as_slice().len()
     )
 }

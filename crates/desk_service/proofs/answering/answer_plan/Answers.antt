@@ -7,7 +7,7 @@ pub returns-in-Ok-Task-clause-answered : goal.returns-in-Ok-Task-clause-answered
 returns-in-Ok-Task-clause-answered g c =
     let e = c.in-Ok-Task.ensures in
     plan_answered _ _ _ _ c.args.key c.args.edition c.args.budget c.in-Ok-Task.task _ _ _ _
-    (rw (c.copy.ensures, c.in-Ok-Task.field-0-is) at e.answered) (not_error e.forever) (rw (e.setting, e.desk) at c.answer_task.ensures.planned)
+    (rw c.in-Ok-Task.field-0-is at e.answered) (not_error e.forever) (rw (e.setting, e.desk) at c.answer_task.ensures.planned)
 
 pub returns-in-Ok-Task-clause-follows : goal.returns-in-Ok-Task-clause-follows
 returns-in-Ok-Task-clause-follows g c = g.met.C.Counter.follows_on _ _ _ c.in-Ok-Task.ensures.follows c.answer_task.ensures.follows
@@ -16,7 +16,7 @@ pub returns-in-Ok : goal.returns-in-Ok
 returns-in-Ok g c =
     let e = c.in-Ok.ensures in
     record {
-      answered = no_task _ _ _ _ c.args.key c.args.edition c.args.budget c.in-Ok.reply _ _ _ (not_error e.forever) (rw c.copy.ensures at e.answered) (is_due _ _ c.answer_to.ensures);
+      answered = no_task _ _ _ _ c.args.key c.args.edition c.args.budget c.in-Ok.reply _ _ _ (not_error e.forever) e.answered (is_due _ _ c.answer_to.ensures);
       known = known_status Loadsheet c.in-Ok.reply c.answer_to.result c.answer_to.ensures;
       setting = e.setting;
       desk = e.desk;
