@@ -11,10 +11,8 @@ ghost use Rattle.editions.specs.Books.{HasTables};
 use crate::fault::DeskFault;
 use crate::opening::open_office;
 use base_words::NoMemory;
-use desk_serve::{DoorsEnd, DoorsRun, serve_doors};
+use desk_serve::{DoorsEnd, OfficeRun, serve_doors};
 use editions::Office;
-use flight_history::Entry;
-use flight_state::FlightState;
 use keeper::Keeper;
 use load_io::{Door, Shelf};
 use placer::Placing;
@@ -25,17 +23,6 @@ use std::thread::Threads;
 /// How many entries are reserved for the doors.
 const RESERVED: u64 = 1_000_000;
 
-/// What a run of several desks leaves: how their work at the doors ended, or why no office was opened for them; the keeper and the
-/// doors; and the flights that the office opened with and its history, which are empty where no door was asked.
-#[derive(Drop)]
-pub struct RanDoors<K, D> {
-    pub ending: Result<DoorsEnd, DeskFault>,
-    pub keeper: K,
-    pub doors: Vec<D>,
-    pub opening: Vec<FlightState>,
-    pub history: Vec<Entry>,
-}
-
 /// The desks of an open office serve the doors.
 fn serve_all<Rt: Threads + Wait + Sync, K: Keeper + Send + Drop, D: Door + Send, P: Placing + Sync>(
     rt: &Rt,
@@ -44,7 +31,7 @@ fn serve_all<Rt: Threads + Wait + Sync, K: Keeper + Send + Drop, D: Door + Send,
     keeper: K,
     doors: Vec<D>,
     placing: &P,
-) -> RanDoors<K, D>
+) -> OfficeRun<Result<DoorsEnd, DeskFault>, K, Vec<D>>
     requires doors { (0 < vec_len doors) × (vec_len doors ≤ 8) }
     requires tables { HasTables (K.tables keeper) office }
     requires unasked { office.history ≡ [] }
@@ -58,7 +45,7 @@ fn serve_all<Rt: Threads + Wait + Sync, K: Keeper + Send + Drop, D: Door + Send,
     ensures unserved { OnErr result.ending ((result.doors.items ≡ doors.items) × (K.faults result.keeper ≡ K.faults keeper)) }
     ensures kept { OnErr result.ending (HasTables (K.tables result.keeper) office) }
 {
-    let DoorsRun {
+    let OfficeRun {
         ending,
         keeper,
         doors,
@@ -66,20 +53,14 @@ fn serve_all<Rt: Threads + Wait + Sync, K: Keeper + Send + Drop, D: Door + Send,
         history,
     } = serve_doors(rt, alloc, office, keeper, doors, placing);
     match ending {
-        Ok(ending) => RanDoors {
+        Ok(ending) => OfficeRun {
             ending: Ok(ending),
             keeper,
             doors,
             opening,
             history,
         },
-        Err(NoMemory) => RanDoors {
-            ending: Err(DeskFault::NoMemory),
-            keeper,
-            doors,
-            opening: Vec::new(alloc),
-            history: Vec::new(alloc),
-        },
+        Err(NoMemory) => OfficeRun::unopened(alloc, Err(DeskFault::NoMemory), keeper, doors),
     }
 }
 
@@ -99,7 +80,7 @@ pub fn run_doors<
     keeper: K,
     doors: Vec<D>,
     placing: &P,
-) -> RanDoors<K, D>
+) -> OfficeRun<Result<DoorsEnd, DeskFault>, K, Vec<D>>
     requires doors { (0 < vec_len doors) × (vec_len doors ≤ 8) }
     ensures served { IfOk result.ending (λ ending. IsRunOfDoors D.coming D.handed D.faults
         D.Link.left D.Link.content D.Link.read_faults D.Link.write_faults
@@ -120,12 +101,6 @@ pub fn run_doors<
     let mut keeper = keeper;
     match open_office(alloc, shelf, names, RESERVED, &mut keeper) {
         Ok(office) => serve_all(rt, alloc, office, keeper, doors, placing),
-        Err(fault) => RanDoors {
-            ending: Err(fault),
-            keeper,
-            doors,
-            opening: Vec::new(alloc),
-            history: Vec::new(alloc),
-        },
+        Err(fault) => OfficeRun::unopened(alloc, Err(fault), keeper, doors),
     }
 }

@@ -8,7 +8,7 @@ mod opening;
 mod run;
 
 pub use desk_http::ConnEnd;
-pub use desk_serve::DoorsEnd;
-pub use doors::{RanDoors, run_doors};
+pub use desk_serve::{DoorsEnd, OfficeRun};
+pub use doors::run_doors;
 pub use fault::DeskFault;
-pub use run::{RanDesk, run_desk};
+pub use run::run_desk;

@@ -10,23 +10,12 @@ ghost use Rattle.desk_run.specs.Runs.{line, IsRunOf, IsServed};
 use crate::fault::DeskFault;
 use crate::opening::{OpenDesk, open_desk};
 use desk_http::{ConnEnd, serve_connection};
+use desk_serve::OfficeRun;
 use desk_service::Solo;
-use flight_history::Entry;
-use flight_state::FlightState;
 use keeper::Keeper;
 use load_io::{Joined, Shelf, Sink, Source};
 use placer::Placing;
 use std::alloc::Global;
-
-/// What a run of a desk leaves: how its connection ended, or why it was not opened; the keeper; and the flights that the office
-/// opened with and its history, which are empty where it was not opened.
-#[derive(Drop)]
-pub struct RanDesk<K: Keeper> {
-    pub ending: Result<ConnEnd, DeskFault>,
-    pub keeper: K,
-    pub opening: Vec<FlightState>,
-    pub history: Vec<Entry>,
-}
 
 /// An open desk serves one connection, from its beginning to its end.
 fn serve<Rt, S: Source, O: Sink, K: Keeper, P: Placing>(
@@ -37,7 +26,7 @@ fn serve<Rt, S: Source, O: Sink, K: Keeper, P: Placing>(
     out: &mut O,
     keeper: K,
     placing: &P,
-) -> RanDesk<K>
+) -> OfficeRun<Result<ConnEnd, DeskFault>, K, ()>
     requires tables { HasTables (K.tables keeper) desk.office }
     requires unasked { desk.office.history ≡ [] }
     ensures ended { IsOk result.ending }
@@ -52,9 +41,10 @@ fn serve<Rt, S: Source, O: Sink, K: Keeper, P: Placing>(
     let end = serve_connection(rt, alloc, &mut tools, &mut solo, &mut link, placing);
     let (office, keeper) = solo.parts();
     let (opening, history) = office.parts();
-    RanDesk {
+    OfficeRun {
         ending: Ok(end),
         keeper,
+        doors: (),
         opening,
         history,
     }
@@ -71,7 +61,7 @@ pub fn run_desk<Rt, F: Shelf, S: Source, O: Sink, K: Keeper, P: Placing>(
     out: &mut O,
     keeper: K,
     placing: &P,
-) -> RanDesk<K>
+) -> OfficeRun<Result<ConnEnd, DeskFault>, K, ()>
     ensures served { IfOk result.ending (λ ending. IsRunOf (F.files shelf.old) (names_of names.now) (K.tables keeper) (K.tables result.keeper)
         (K.faults keeper) (K.faults result.keeper)
         (line (S.left input.old) (O.content out.old) (S.faults input.old) (O.faults out.old))
@@ -92,11 +82,6 @@ pub fn run_desk<Rt, F: Shelf, S: Source, O: Sink, K: Keeper, P: Placing>(
     let mut keeper = keeper;
     match open_desk(alloc, shelf, names, &mut keeper) {
         Ok(desk) => serve(rt, alloc, desk, input, out, keeper, placing),
-        Err(fault) => RanDesk {
-            ending: Err(fault),
-            keeper,
-            opening: Vec::new(alloc),
-            history: Vec::new(alloc),
-        },
+        Err(fault) => OfficeRun::unopened(alloc, Err(fault), keeper, ()),
     }
 }

@@ -8,8 +8,10 @@
 mod attending;
 mod bays;
 mod ending;
+mod office_run;
 mod serving;
 
 pub use attending::attend;
 pub use ending::DoorsEnd;
+pub use office_run::OfficeRun;
 pub use serving::{DoorsRun, serve_doors};

@@ -10,13 +10,12 @@ ghost use Rattle.desk_serve.specs.Service.{IsOneHistory};
 
 use crate::bays::{Bay, are_all_closed, pair, part, work_with_tools};
 use crate::ending::DoorsEnd;
+use crate::office_run::OfficeRun;
 use base_words::NoMemory;
 use desk_http::Tools;
 use desk_lock::{Desk, Room};
 use desk_service::Bench;
 use editions::Office;
-use flight_history::Entry;
-use flight_state::FlightState;
 use keeper::Keeper;
 use load_io::Door;
 use placer::Placing;
@@ -24,16 +23,8 @@ use std::alloc::Global;
 use std::sync::Wait;
 use std::thread::Threads;
 
-/// What an office that served doors leaves: how that ended, or that there was no memory to begin it; the keeper and the doors; and
-/// the flights that the office opened with and its history.
-#[derive(Drop)]
-pub struct DoorsRun<K, D> {
-    pub ending: Result<DoorsEnd, NoMemory>,
-    pub keeper: K,
-    pub doors: Vec<D>,
-    pub opening: Vec<FlightState>,
-    pub history: Vec<Entry>,
-}
+/// What an office that served doors leaves. The ending is `NoMemory` where there was no memory to begin.
+pub type DoorsRun<K, D> = OfficeRun<Result<DoorsEnd, NoMemory>, K, Vec<D>>;
 
 /// The memory for the bays, and the tools of their desks.
 struct Prepared<K: Keeper + Drop, D> {
@@ -199,7 +190,7 @@ pub fn serve_doors<
     } = work_in_room(rt, alloc, bench, capacity, doors, placing);
     let (office, keeper) = bench.parts();
     let (opening, history) = office.parts();
-    DoorsRun {
+    OfficeRun {
         ending,
         keeper,
         doors,

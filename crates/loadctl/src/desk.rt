@@ -5,10 +5,9 @@ ghost use Rattle.desk_run.specs.Runs.{line};
 ghost use Rattle.plan_commands.specs.Arguments.{arguments_of};
 ghost use Rattle.loadctl.specs.Desk.{surroundings, fault_text, status_of_end, status_of_fault, EndsDesk, IsReported};
 
-use crate::ran::RanOne;
 use base_words::NoMemory;
 use desk_fleet::line_of_refusal;
-use desk_run::{ConnEnd, DeskFault, RanDesk, run_desk};
+use desk_run::{ConnEnd, DeskFault, OfficeRun, run_desk};
 use keeper::Keeper;
 use load_io::{Shelf, Sink, Source, write_all};
 use placer::Placing;
@@ -88,26 +87,28 @@ pub fn serve_desk<Rt, F: Shelf, S: Source, O: Sink, K: Keeper, P: Placing>(
     out: &mut O,
     keeper: K,
     placing: &P,
-) -> RanOne<K>
+) -> OfficeRun<u8, K, ()>
     ensures ends { EndsDesk (arguments_of names.now)
         (surroundings (F.files shelf.old) (F.faults shelf.old) (K.tables keeper) (K.faults keeper)
         (line (S.left input.old) (O.content out.old) (S.faults input.old) (O.faults out.old)))
         (surroundings (F.files shelf.new) (F.faults shelf.new) (K.tables result.keeper) (K.faults result.keeper)
         (line (S.left input.new) (O.content out.new) (S.faults input.new) (O.faults out.new)))
-        result.opening.items result.history.items result.status }
+        result.opening.items result.history.items result.ending }
     ensures same_files { F.files shelf.new ≡ F.files shelf.old }
     ensures never_falls { K.faults keeper ≤ K.faults result.keeper }
 {
-    let RanDesk {
+    let OfficeRun {
         ending,
         keeper,
+        doors,
         opening,
         history,
     } = run_desk(rt, alloc, names, shelf, input, out, keeper, placing);
     let status = status_of(alloc, ending, out);
-    RanOne {
-        status,
+    OfficeRun {
+        ending: status,
         keeper,
+        doors,
         opening,
         history,
     }

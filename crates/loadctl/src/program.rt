@@ -11,8 +11,9 @@ ghost use Rattle.loadctl.specs.Serve.{AreDoorsFor, RunsAtDoors};
 
 use crate::asked::{Asked, AskedOne, asked_by};
 use crate::desk::serve_desk;
-use crate::ran::{Ran, RanOne};
+use crate::ran::Ran;
 use crate::serve::serve_office;
+use desk_run::OfficeRun;
 use keeper::Keeper;
 use load_io::{Door, Shelf, Sink, Source};
 use placer::Placing;
@@ -29,21 +30,17 @@ fn run_task<F: Shelf, O: Sink, K: Keeper, P: Placing>(
     out: &mut O,
     keeper: K,
     placing: &P,
-) -> RanOne<K>
+) -> OfficeRun<u8, K, ()>
     ensures exits { (arguments : List (List ℕ)) → AreCommand arguments command.entry → ExitsWith arguments
         (outside (F.files shelf.old) (F.faults shelf.old) (O.content out.old) (O.faults out.old))
         (outside (F.files shelf.new) (F.faults shelf.new) (O.content out.new) (O.faults out.new))
-        result.status }
+        result.ending }
     ensures keeper { result.keeper ≡ keeper }
     ensures unopened { result.opening.items ≡ [] }
     ensures unasked { result.history.items ≡ [] }
 {
-    RanOne {
-        status: run_command(alloc, command, shelf, out, placing),
-        keeper,
-        opening: Vec::new(alloc),
-        history: Vec::new(alloc),
-    }
+    let status = run_command(alloc, command, shelf, out, placing);
+    OfficeRun::unopened(alloc, status, keeper, ())
 }
 
 /// Does what is asked that is at no door.
@@ -56,13 +53,13 @@ fn run_asked<Rt, F: Shelf, S: Source, O: Sink, K: Keeper, P: Placing>(
     out: &mut O,
     keeper: K,
     placing: &P,
-) -> RanOne<K>
+) -> OfficeRun<u8, K, ()>
     ensures { (arguments : List (List ℕ)) → AskOne arguments asked.entry → Runs arguments
         (surroundings (F.files shelf.old) (F.faults shelf.old) (K.tables keeper) (K.faults keeper)
         (line (S.left input.old) (O.content out.old) (S.faults input.old) (O.faults out.old)))
         (surroundings (F.files shelf.new) (F.faults shelf.new) (K.tables result.keeper) (K.faults result.keeper)
         (line (S.left input.new) (O.content out.new) (S.faults input.new) (O.faults out.new)))
-        result.status result.opening.items result.history.items }
+        result.ending result.opening.items result.history.items }
 {
     match asked {
         AskedOne::Task(command) => run_task(alloc, Some(command), shelf, out, keeper, placing),
@@ -84,13 +81,13 @@ pub fn run_one<Rt, F: Shelf, S: Source, O: Sink, K: Keeper, P: Placing>(
     out: &mut O,
     keeper: K,
     placing: &P,
-) -> RanOne<K>
+) -> OfficeRun<u8, K, ()>
     ensures { Runs (arguments_of words.now.items)
         (surroundings (F.files shelf.old) (F.faults shelf.old) (K.tables keeper) (K.faults keeper)
         (line (S.left input.old) (O.content out.old) (S.faults input.old) (O.faults out.old)))
         (surroundings (F.files shelf.new) (F.faults shelf.new) (K.tables result.keeper) (K.faults result.keeper)
         (line (S.left input.new) (O.content out.new) (S.faults input.new) (O.faults out.new)))
-        result.status result.opening.items result.history.items }
+        result.ending result.opening.items result.history.items }
 {
     match asked_by(words.as_slice()) {
         Asked::One(asked) => run_asked(rt, alloc, asked, shelf, input, out, keeper, placing),
@@ -134,11 +131,12 @@ pub fn run<
             serve_office(rt, alloc, serve.fleet, shelf, out, keeper, doors, placing)
         }
         Asked::One(asked) => {
-            let RanOne {
-                status,
+            let OfficeRun {
+                ending: status,
                 keeper,
                 opening,
                 history,
+                ..
             } = run_asked(rt, alloc, asked, shelf, input, out, keeper, placing);
             Ran {
                 status,

@@ -8,7 +8,7 @@ ghost use Rattle.loadctl.specs.Serve.{status_of_doors, EndsServe};
 
 use crate::desk::report;
 use crate::ran::Ran;
-use desk_run::{DeskFault, DoorsEnd, RanDoors, run_doors};
+use desk_run::{DeskFault, DoorsEnd, OfficeRun, run_doors};
 use keeper::Keeper;
 use load_io::{Door, Shelf, Sink};
 use placer::Placing;
@@ -61,7 +61,7 @@ pub fn serve_office<
     ensures same_files { F.files shelf.new ≡ F.files shelf.old }
     ensures never_falls { K.faults keeper ≤ K.faults result.keeper }
 {
-    let RanDoors {
+    let OfficeRun {
         ending,
         keeper,
         doors,

@@ -67,7 +67,7 @@ fn ran<K: Keeper + Drop>(
         keeper,
         &Direct,
     );
-    Ok((ran.status, ran.history.len(), out.written().to_vec(alloc)?))
+    Ok((ran.ending, ran.history.len(), out.written().to_vec(alloc)?))
 }
 
 #[test]

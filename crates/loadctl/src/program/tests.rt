@@ -202,7 +202,7 @@ fn ran<K: Keeper + Drop>(
         keeper,
         &Direct,
     );
-    Ok((ran.status, out.written().to_vec(alloc)?))
+    Ok((ran.ending, out.written().to_vec(alloc)?))
 }
 
 /// Fails where the desk does not end with 0, or answers otherwise.
