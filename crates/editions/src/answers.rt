@@ -10,7 +10,6 @@ ghost use Rattle.editions.specs.Answers.{IsAnswer, IsAnswerWith, MakesSound};
 ghost use Rattle.editions.specs.Sound.{IsReady, IsTaskAnswer};
 
 use crate::documents::{broken_by, row_of, sheet_reply};
-use crate::fleet::aircraft_of;
 use crate::flights::Flight;
 use crate::reasons::{
     is_released, no_more_editions, no_plan, not_current, not_released, not_shown,
@@ -18,6 +17,7 @@ use crate::reasons::{
 use aircraft_file::Aircraft;
 use base_words::NoMemory;
 use flight_history::{Act, FigurePart, Refusal, Reply, What, copy_of, new_flight, replaced};
+use flight_row::aircraft_of;
 use flight_state::{FlightKey, FlightState, Leg, Lmc, Lmcs, Stage, effective};
 use hold_limits::Path;
 use last_minute::{LmcFault, apply_lmc};

@@ -10,7 +10,6 @@ mod acts;
 mod answers;
 mod asking;
 mod documents;
-mod fleet;
 mod flights;
 mod office;
 mod reasons;

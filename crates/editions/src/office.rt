@@ -14,13 +14,13 @@ ghost use Rattle.editions.specs.Starting.{AreLoaded, IsLoadFault, IsStarted, IsR
 use crate::acts::{keeps_figures, key_of};
 use crate::answers::{Answer, answer_elsewhere, answer_there};
 use crate::asking::act_at;
-use crate::fleet::aircraft_of;
 use crate::flights::Flights;
 use crate::settling::settle;
 use crate::starting::{StartFault, StartingFlights, starting_flights};
 use aircraft_file::Aircraft;
 use base_words::NoMemory;
 use flight_history::{Act, Entry, Reply, Request};
+use flight_row::aircraft_of;
 use flight_state::FlightState;
 use keeper::{KeepFault, Keeper, KeptRow};
 use std::alloc::Global;

@@ -14,11 +14,11 @@ ghost use Rattle.editions.specs.Sound.{IsSound};
 
 use crate::answers::Answer;
 use crate::documents::{prepared, row_of};
-use crate::fleet::aircraft_of;
 use crate::flights::Flights;
 use aircraft_file::Aircraft;
 use base_words::NoMemory;
 use flight_history::{Outcome, Refusal, Reply};
+use flight_row::aircraft_of;
 use flight_state::{FlightKey, FlightState};
 use keeper::{Bytes, KeepFault, Keeper, KeptRow};
 use std::alloc::Global;

@@ -8,11 +8,10 @@ ghost use Rattle.editions.specs.Sound.{IsKeptFlight, IsSound};
 ghost use Rattle.editions.specs.StartRows.{AreFlightsOf, HasOneMore, HaveOtherKeys, IsFirstFault, IsFlightOf, IsGoodRow, IsRowFault, IsStartRefused};
 
 use crate::documents::prepared;
-use crate::fleet::aircraft_of;
 use crate::flights::Flights;
 use aircraft_file::Aircraft;
 use base_words::NoMemory;
-use flight_row::{RowFault, read_row};
+use flight_row::{RowFault, aircraft_of, read_row};
 use flight_state::{FlightKey, FlightState};
 use keeper::{Bytes, KeptRow};
 use std::alloc::Global;

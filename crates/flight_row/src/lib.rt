@@ -24,6 +24,7 @@
 
 mod changes;
 mod fault;
+mod fleet;
 mod kinds;
 mod loading;
 mod reader;
@@ -35,5 +36,6 @@ mod words;
 mod writer;
 
 pub use fault::RowFault;
+pub use fleet::aircraft_of;
 pub use reader::read_row;
 pub use writer::write_row;

@@ -1,7 +1,6 @@
 //! The reader of a row's text.
 
-ghost use Rattle.std.specs.Prelude.{◌≡◌, ◌≤◌, ◌⊎◌, ℕ, List, Some, length, option_to_list, find, bytes_eq, IfOk, IfErr, MatchResult};
-ghost use Rattle.std.specs.Option.{option_copied};
+ghost use Rattle.std.specs.Prelude.{◌≡◌, ◌≤◌, ◌⊎◌, ℕ, List, Some, length, option_to_list, IfOk, IfErr, MatchResult};
 ghost use Rattle.text_lines.specs.Grammar.{Fails};
 ghost use Rattle.text_lines.specs.Lines.{text_of, IsStopped};
 ghost use Rattle.text_lines.specs.Sections.{ArePart, IsOfKind};
@@ -19,6 +18,7 @@ ghost use Rattle.flight_row.specs.Refusals.{AreRow, IsRefused};
 
 use crate::changes::read_changes;
 use crate::fault::RowFault;
+use crate::fleet::aircraft_of;
 use crate::kinds::{
     ContainerLines, DryLine, EditionLine, FuelLine, LegLine, LimitsLine, LoadLines, PlanLine,
     ReleasesLine, StageLine, VersionLine, ZoneLines,
@@ -26,7 +26,7 @@ use crate::kinds::{
 use crate::loading::loaded;
 use crate::row::{PlanNames, Row, Version};
 use crate::single_lines::first_releases;
-use aircraft_file::{Aircraft, Registration};
+use aircraft_file::Aircraft;
 use base_words::NoMemory;
 use flight_state::{FlightState, Leg, Lmcs, Stage};
 use payload::Cabin;
@@ -54,21 +54,10 @@ pub fn read_row(alloc: Global, fleet: &[Aircraft], text: &[u8]) -> Result<Flight
         → Reads fleet.now (row_text Two (row_of a s)) s) }
 {
     let row = read_lines(alloc, text)?;
-    let Some(a) = aircraft_of(fleet, &row.leg.registration) else {
+    let Some(a) = aircraft_of(fleet, &row.leg) else {
         return Err(RowFault::NoAircraft);
     };
-    // What is known of a hold is known once it is asked for.
-    let _hold = a.hold();
     Ok(loaded(alloc, a, row)?)
-}
-
-/// The aircraft with this registration.
-fn aircraft_of<'a>(fleet: &'a [Aircraft], registration: &Registration) -> Option<&'a Aircraft>
-    ensures { option_copied result ≡ find (λ (a : Craft). bytes_eq a.registration registration.now) fleet.now }
-{
-    fleet
-        .iter()
-        .find(|a| a.registration().bytes() == registration.bytes())
 }
 
 /// What the first lines of a row say.

@@ -20,12 +20,12 @@ returns-in_err-row-clause-complete c =
 pub returns-in_default-clause-refused : goal.returns-in_default-clause-refused
 returns-in_default-clause-refused c =
     let spells = c.in_ok-row.ensures.read in
-    no_aircraft spells.0 c.in_ok-row.row spells.1 (sym c.in_default.ensures)
+    no_aircraft spells.0 c.in_ok-row.row spells.1 (sym c.in_default.ensures.found)
 
 pub returns-in_default-clause-complete : goal.returns-in_default-clause-complete
 returns-in_default-clause-complete c =
     let spells = c.in_ok-row.ensures.read in
-    λ s reads. absurd (no_reads c.args.fleet.now c.args.text.now spells.0 c.in_ok-row.row s spells.1 (sym c.in_default.ensures) reads)
+    λ s reads. absurd (no_reads c.args.fleet.now c.args.text.now spells.0 c.in_ok-row.row s spells.1 (sym c.in_default.ensures.found) reads)
 
 pub loaded-requires : goal.loaded-requires
 loaded-requires c =
@@ -40,19 +40,19 @@ returns-in_err-loaded-clause-refused c =
 pub returns-clause-read : goal.returns-clause-read
 returns-clause-read c =
     let spells = c.in_ok-row.ensures.read in
-    record { version = spells.0; row = c.in_ok-row.row; spells = spells.1; aircraft = c.in-Some.a.now; found = sym c.in-Some.ensures; loaded = c.in_ok-loaded.ensures }
+    record { version = spells.0; row = c.in_ok-row.row; spells = spells.1; aircraft = c.in-Some.a.now; found = sym c.in-Some.ensures.found; loaded = c.in_ok-loaded.ensures }
 
 pub returns-clause-complete : goal.returns-clause-complete
 returns-clause-complete c =
     let spells = c.in_ok-row.ensures.read in
-    λ s reads. reads_once c.args.fleet.now c.args.text.now spells.0 c.in_ok-row.row c.in-Some.a.now c.in_ok-loaded.field-0 s (names_differ c.in-Some.a.now c.hold-hold.ensures.lawful) spells.1 (sym c.in-Some.ensures) c.in_ok-loaded.ensures reads
+    λ s reads. reads_once c.args.fleet.now c.args.text.now spells.0 c.in_ok-row.row c.in-Some.a.now c.in_ok-loaded.field-0 s (names_differ c.in-Some.a.now (c.in-Some.ensures.lawful c.in-Some.a.now (sym c.in-Some.ensures.found))) spells.1 (sym c.in-Some.ensures.found) c.in_ok-loaded.ensures reads
 
 pub returns-clause-kept : goal.returns-clause-kept
 returns-clause-kept c =
     let spells = c.in_ok-row.ensures.read in
-    λ b other. kept_row c.args.fleet.now spells.0 c.in_ok-row.row c.in-Some.a.now b c.in_ok-loaded.field-0 spells.1.spelled (sym c.in-Some.ensures) c.in_ok-loaded.ensures other
+    λ b other. kept_row c.args.fleet.now spells.0 c.in_ok-row.row c.in-Some.a.now b c.in_ok-loaded.field-0 spells.1.spelled (sym c.in-Some.ensures.found) c.in_ok-loaded.ensures other
 
 pub returns-clause-renewed : goal.returns-clause-renewed
 returns-clause-renewed c =
     let spells = c.in_ok-row.ensures.read in
-    λ b other. renewed_row c.args.fleet.now spells.0 c.in_ok-row.row c.in-Some.a.now b c.in_ok-loaded.field-0 spells.1.spelled (sym c.in-Some.ensures) c.in_ok-loaded.ensures other
+    λ b other. renewed_row c.args.fleet.now spells.0 c.in_ok-row.row c.in-Some.a.now b c.in_ok-loaded.field-0 spells.1.spelled (sym c.in-Some.ensures.found) c.in_ok-loaded.ensures other

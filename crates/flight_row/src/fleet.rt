@@ -1,4 +1,4 @@
-//! The aircraft of the office.
+//! The aircraft of a fleet.
 
 ghost use Rattle.std.specs.Prelude.{◌≡◌, Some};
 ghost use Rattle.std.specs.Option.{option_copied};
@@ -23,9 +23,7 @@ pub fn aircraft_of<'a>(fleet: &'a [Aircraft], leg: &Leg) -> Option<&'a Aircraft>
     ensures found { option_copied result ≡ aircraft_of fleet.now leg.now }
     ensures lawful { (a : Craft) → aircraft_of fleet.now leg.now ≡ Some a → IsLawfulCraft a }
 {
-    let Some(a) = first_with(fleet, leg) else {
-        return None;
-    };
+    let a = first_with(fleet, leg)?;
     // What is known of an aircraft is known once it is asked for.
     let _hold = a.hold();
     Some(a)
