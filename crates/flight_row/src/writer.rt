@@ -14,6 +14,9 @@ use std::alloc::Global;
 use telex::Builder;
 use text_lines::write_lines;
 
+/// The bytes of a row that few flights exceed.
+const USUAL_LENGTH: usize = 512;
+
 /// Writes the one row of a flight in the second version. Where its plan holds it is read back as the same flight.
 pub fn write_row(alloc: Global, a: &Aircraft, s: &FlightState) -> Result<Vec<u8>, NoMemory>
     requires { HasRow a.now s.now }
@@ -23,7 +26,7 @@ pub fn write_row(alloc: Global, a: &Aircraft, s: &FlightState) -> Result<Vec<u8>
 {
     let hold = a.hold();
     let _positions = hold.named_positions();
-    let mut text = Builder::new(alloc);
+    let mut text = Builder::with_capacity(alloc, USUAL_LENGTH)?;
     push_head(&mut text, s)?;
     push_base(&mut text, &s.base)?;
     push_plan(&mut text, hold, s)?;

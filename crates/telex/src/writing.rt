@@ -1,5 +1,5 @@
 //! Writing a text, piece by piece.
-ghost use Rattle.std.specs.Prelude.{◌≡◌, ◌<◌, ◌≤◌, [], ◌∷◌, ◌++◌, length, codes, OnOk, OnErr};
+ghost use Rattle.std.specs.Prelude.{◌≡◌, ◌<◌, ◌≤◌, [], ◌∷◌, ◌++◌, length, codes, IfOk, OnOk, OnErr};
 ghost use Rattle.mass_units.specs.Spelling.{number_text, signed_text, index_text, short_index_text, sign_text, with_sign, two_digits, hundredths_text};
 ghost use Rattle.telex.specs.Text.{line_feed, space};
 
@@ -50,6 +50,16 @@ impl Builder {
             alloc,
             bytes: Vec::new(alloc),
         }
+    }
+
+    /// An empty text with room for so many bytes, of which more may be written. It fails where memory runs out.
+    pub fn with_capacity(alloc: Global, capacity: usize) -> Result<Builder, NoMemory>
+        ensures { IfOk result (λ builder. builder ≡ []) }
+    {
+        Ok(Builder {
+            alloc,
+            bytes: Vec::with_capacity(alloc, capacity)?,
+        })
     }
 
     /// Appends a piece unchanged.

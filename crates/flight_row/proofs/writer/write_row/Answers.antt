@@ -22,10 +22,10 @@ returns-clause-written c =
     let t3 = c.push_plan.new.text in
     let t4 = c.write_lines.new.out in
     let H = version_line Two ∷ leg_line s.leg ∷ edition_line s.edition ∷ stage_line s.stage ∷ releases_line s.releases ∷ [] in
-    let e1 : t1 ≡ text_of H = c.in_ok-push_head.ensures.lines ∙ ap (λ t. t ++ text_of H) c.new-text.ensures in
+    let e1 : t1 ≡ text_of H = c.in_ok-push_head.ensures.lines ∙ ap (λ t. t ++ text_of H) c.in_ok-text.ensures in
     let e3 : t3 ≡ t2 ++ text_of (plan_lines row.plan) = c.in_ok-push_plan.ensures.lines ∙ ap (λ (h : Layout). t2 ++ text_of (plan_lines (plan_names h.positions s))) c.hold-hold.ensures.value in
     let e4 : t4 ≡ t3 ++ text_of (map change_line row.lmcs) = c.in_ok-write_lines.ensures.added ∙ ap (λ (xs : List Lmc). t3 ++ text_of (map change_line xs)) c.as_slice.ensures.value in
-    c.finish.ensures ∙ row_written row t1 t2 t3 t4 c.text-5.new.self c.end_line.new.self e1 c.in_ok-push_base.ensures.lines e3 e4 c.in_ok-text.ensures.added c.in_ok-end_line.ensures.added
+    c.finish.ensures ∙ row_written row t1 t2 t3 t4 c.text-5.new.self c.end_line.new.self e1 c.in_ok-push_base.ensures.lines e3 e4 c.in_ok-text-2.ensures.added c.in_ok-end_line.ensures.added
 
 pub returns-clause-read_back : goal.returns-clause-read_back
 returns-clause-read_back c =
