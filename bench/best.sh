@@ -6,6 +6,8 @@
 set -eu
 
 top=$(dirname "$(dirname "$(readlink -f "$0")")")
+# shellcheck source=/dev/null
+. "$top/bench/counting.sh"
 program=$(readlink -f "${1-$top/out/loadctl}")
 [ $# -gt 0 ] && shift
 [ $# -gt 0 ] || set -- "$top"/examples/*.task

@@ -5,6 +5,8 @@
 set -eu
 
 top=$(dirname "$(dirname "$(readlink -f "$0")")")
+# shellcheck source=/dev/null
+. "$top/bench/counting.sh"
 program=${1-$top/out/loadctl}
 room=$(mktemp -d)
 trap 'rm -rf "$room"' EXIT

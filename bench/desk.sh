@@ -8,6 +8,8 @@
 set -eu
 
 top=$(dirname "$(dirname "$(readlink -f "$0")")")
+# shellcheck source=/dev/null
+. "$top/bench/counting.sh"
 program=$(readlink -f "${1-$top/out/loadctl}")
 aircraft=$top/examples/daiab.toml
 key=XX210-12

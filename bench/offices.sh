@@ -7,12 +7,14 @@
 # rounds take, and the difference of a kind and the one before it is what the last request of a round takes. The program's own
 # part is in it: the key's text, and with a plan the check of its certificate.
 #
-# A departure is taken from the 21st to the 100th where there are as many flights: in one of the first the C library puts
-# together the memory that the start gave back, which takes the longer the more flights there are. The others are about the
-# first flight, in which a late change has room for 20 passengers.
+# In one of the first rounds the C library puts together the memory that the start gave back, which takes the longer the more
+# flights there are. So the first round is left out where there are more, and a departure is taken from the 21st to the 100th.
+# The others are about the first flight, in which a late change has room for 20 passengers.
 set -eu
 
 top=$(dirname "$(dirname "$(readlink -f "$0")")")
+# shellcheck source=/dev/null
+. "$top/bench/counting.sh"
 program=${1-$top/crates/office_bench/out/office_bench}
 aircraft=$top/examples/daiab.toml
 
@@ -54,15 +56,16 @@ for flights in 1 100 2000; do
     many=$((flights < 100 ? flights : 100))
     behind=$((many - few))
     behind=$((behind < 20 ? behind : 20))
+    early=$((few > 1))
     for entries in 10 2000; do
-        show=$(round show "$flights" "$entries" 0 "$few")
-        set=$(round set "$flights" "$entries" 0 "$few")
-        take=$(round take "$flights" "$entries" 0 "$few")
-        plan=$(round plan "$flights" "$entries" 0 "$few")
-        install=$(round install "$flights" "$entries" 0 "$few")
-        release=$(round release "$flights" "$entries" 0 "$few")
-        late=$(round late "$flights" "$entries" 0 "$few")
-        reopen=$(round reopen "$flights" "$entries" 0 "$few")
+        show=$(round show "$flights" "$entries" "$early" "$few")
+        set=$(round set "$flights" "$entries" "$early" "$few")
+        take=$(round take "$flights" "$entries" "$early" "$few")
+        plan=$(round plan "$flights" "$entries" "$early" "$few")
+        install=$(round install "$flights" "$entries" "$early" "$few")
+        release=$(round release "$flights" "$entries" "$early" "$few")
+        late=$(round late "$flights" "$entries" "$early" "$few")
+        reopen=$(round reopen "$flights" "$entries" "$early" "$few")
         released=$(round release "$flights" "$entries" "$behind" "$many")
         departed=$(round depart "$flights" "$entries" "$behind" "$many")
         printf '%-8d %-8d' "$flights" "$entries"

@@ -9,6 +9,8 @@
 set -eu
 
 top=$(dirname "$(dirname "$(readlink -f "$0")")")
+# shellcheck source=/dev/null
+. "$top/bench/counting.sh"
 growth=no
 if [ "${1-}" = --growth ]; then
     growth=yes

@@ -8,6 +8,8 @@
 set -eu
 
 top=$(dirname "$(dirname "$(readlink -f "$0")")")
+# shellcheck source=/dev/null
+. "$top/bench/counting.sh"
 count=200
 
 if ! command -v valgrind >/dev/null; then
