@@ -13,8 +13,8 @@ use Rattle.hold_reach.specs.Reach.{bound}
 use Rattle.hold_reach.proofs.ViableLemmas.{bound-most}
 use Rattle.certificate.specs.Good.{HoldsNothingBetter, IsNoBetter, IsGood}
 use Rattle.certificate.specs.Evidence.{claimed}
+use Rattle.certificate.specs.declared.parts.Certificate.{Certificate}
 use Rattle.cert_checker.specs.Claims.{HasNoPlacement, IsGoodFor, ClaimsNone}
-use Rattle.cert_checker.specs.Certified.{Certified}
 use Rattle.cert_checker.proofs.PathOrder.{cut-or_uncut, at_most-extension}
 
 at_least-bound : (t : Problem) (claim : Key) (cut : List ℕ) (rest : List ℕ) (b : Option ℕ)
@@ -61,13 +61,12 @@ good-none t cuts expanded good path admissible =
     (cut-or_uncut cuts first.0)
 
 -- the same of the parts of a certificate
-pub good_for-best : (p : Certified) (path : List ℕ) → p.task.ideal_low ≤ℤ p.task.ideal_high → IsGoodFor p.task p.certificate → claimed p.certificate.claim ≡ Some path → IsBest p.task path
-good_for-best p path band good is = good-best p.task path p.certificate.cuts p.certificate.expanded band
-    (subst (λ claim. IsGood p.task claim p.certificate.cuts p.certificate.expanded) is good)
+pub good_for-best : (t : Problem) (c : Certificate) (path : List ℕ) → t.ideal_low ≤ℤ t.ideal_high → IsGoodFor t c → claimed c.claim ≡ Some path → IsBest t path
+good_for-best t c path band good is = good-best t path c.cuts c.expanded band (subst (λ claim. IsGood t claim c.cuts c.expanded) is good)
 
-pub good_for-none : (p : Certified) → IsGoodFor p.task p.certificate → ClaimsNone p.certificate → HasNoPlacement p.task
-good_for-none p good none = good-none p.task p.certificate.cuts p.certificate.expanded
-    (subst (λ claim. IsGood p.task claim p.certificate.cuts p.certificate.expanded) (is_none-same (claimed p.certificate.claim) none) good)
+pub good_for-none : (t : Problem) (c : Certificate) → IsGoodFor t c → ClaimsNone c → HasNoPlacement t
+good_for-none t c good none = good-none t c.cuts c.expanded
+    (subst (λ claim. IsGood t claim c.cuts c.expanded) (is_none-same (claimed c.claim) none) good)
   where
     is_none-same : (o : Option (List ℕ)) → IsNone o → o ≡ None
     is_none-same None none = refl

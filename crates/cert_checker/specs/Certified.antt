@@ -2,9 +2,13 @@
 use Rattle.hold_limits.specs.Problem.{Problem}
 use Rattle.certificate.specs.declared.parts.Certificate.{Certificate}
 
-pub record Certified : Type 0 where
+-- with a certificate of any kind
+pub record CertifiedBy (C : Type 0) : Type 0 where
   pub task : Problem
-  pub certificate : Certificate
+  pub certificate : C
 
-abbrev pub certified : Problem → Certificate → Certified
+abbrev pub Certified : Type 0
+Certified = CertifiedBy Certificate
+
+abbrev pub certified : {C : Type 0} → Problem → C → CertifiedBy C
 certified t c = record { task = t; certificate = c }

@@ -1,25 +1,24 @@
 //! Whether a claim holds, and what is better than it.
 
-ghost use Rattle.std.specs.Prelude.{◌≡◌, ◌↔◌, ◌≤◌, IfOk, IfErr, IsTrue, false, length};
+ghost use Rattle.std.specs.Prelude.{◌≡◌, ◌↔◌, ◌≤◌, IfOk, IfErr, IsSome, IsNone, IsTrue, false, length};
 ghost use Rattle.hold_limits.specs.Placement.{IsAtMost};
 ghost use Rattle.certificate.specs.Evidence.{claimed};
-ghost use Rattle.cert_checker.specs.Claims.{ClaimsPath, ClaimsNone};
 ghost use Rattle.cert_checker.specs.FirstReason.{ClaimHolds};
 ghost use Rattle.cert_checker.specs.Steps.{path_of, standard_key, IsMeasured, IsAtLeast};
 ghost use Rattle.cert_checker.specs.declared.reject.Reject.TheVariants.{NotAPlacement};
 
 use crate::reject::Reject;
 use crate::standard::{Evidence, Standard};
-use certificate::{Certificate, Claim};
+use certificate::Claim;
 use hold_limits::{Task, is_admissible, outcome};
 use std::cmp::Ordering;
 
-/// Whether the certificate claims a path.
-pub fn claims_path(certificate: &Certificate) -> bool
-    ensures path { IsTrue result ↔ ClaimsPath certificate.now }
-    ensures none { result ≡ false ↔ ClaimsNone certificate.now }
+/// Whether a path is claimed.
+pub fn claims_path(claim: &Claim) -> bool
+    ensures path { IsTrue result ↔ IsSome (claimed claim.now) }
+    ensures none { result ≡ false ↔ IsNone (claimed claim.now) }
 {
-    match &certificate.claim {
+    match claim {
         Claim::Best(_) => true,
         Claim::NoneFits => false,
     }

@@ -5,6 +5,7 @@
 mod checks;
 mod claim;
 mod cuts;
+mod evidence;
 mod laws;
 mod no_plan;
 mod proven;
@@ -13,7 +14,9 @@ mod standard;
 mod walk;
 
 pub use checks::check;
+pub use claim::claims_path;
+pub use evidence::Method;
 pub use laws::certificate_laws;
-pub use no_plan::NoPlan;
-pub use proven::Proven;
+pub use no_plan::{NoPlan, NoPlanBy};
+pub use proven::{Proven, ProvenBy};
 pub use reject::Reject;

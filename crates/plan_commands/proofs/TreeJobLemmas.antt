@@ -10,11 +10,12 @@ use Rattle.plan_text.specs.PlanText.{one_line, plan_text}
 use Rattle.certificate.specs.Evidence.{claimed}
 use Rattle.certificate.specs.CertificateText.{IsSpelledClaim}
 use Rattle.cert_checker.specs.Claims.{HasNoPlacement}
+use Rattle.cert_checker.specs.Certified.{CertifiedBy}
+use Rattle.tree_certificate.specs.declared.parts.TreeCertificate.{TreeCertificate}
 use Rattle.tree_certificate.specs.TreeText.{tree_text, IsSpelled}
 use Rattle.tree_certificate.specs.Listed.{ListedTrees}
 use Rattle.tree_checker.specs.GoodTrees.{IsGoodTrees}
 use Rattle.tree_checker.specs.FirstReason.{IsRejected}
-use Rattle.tree_checker.specs.Certified.{TreeCertified}
 use Rattle.tree_checker.specs.declared.rejection.TreeRejection.{TreeRejection}
 use Rattle.tree_checker.specs.declared.rejection.TreeRejection.TheVariants as wrong
 use Rattle.tree_search.specs.TreeAnswers.{IsTreeAnswerTo}
@@ -94,13 +95,13 @@ moved : (u : Problem) (found : Option Reply) (a : TreeAnswer) → ((t : Problem)
 moved u None a same is = tt
 moved u (Some reply) a same is = λ t looks to. subst (λ (p : Problem). IsTreePlacing p looks reply.outcome reply.text.items) (same t looks to) (is looks)
 
-pub best-replies : (proven : TreeCertified) (result : Result (Option Reply) NoMemory)
+pub best-replies : (proven : CertifiedBy TreeCertificate) (result : Result (Option Reply) NoMemory)
     → IfOk result (λ found. IfSome found (λ reply. (looks : ℕ) → IsTreePlacing proven.task looks reply.outcome reply.text.items))
     → IfOk result (λ found. IfSome found (Replies (answer.Best proven)))
 best-replies proven (Ok found) is = moved proven.task found (answer.Best proven) (λ t looks to. to) is
 best-replies proven (Err e) is = tt
 
-pub none-replies : (no_plan : TreeCertified) (result : Result (Option Reply) NoMemory)
+pub none-replies : (no_plan : CertifiedBy TreeCertificate) (result : Result (Option Reply) NoMemory)
     → IfOk result (λ found. IfSome found (λ reply. (looks : ℕ) → IsTreePlacing no_plan.task looks reply.outcome reply.text.items))
     → IfOk result (λ found. IfSome found (Replies (answer.NoneFits no_plan)))
 none-replies no_plan (Ok found) is = moved no_plan.task found (answer.NoneFits no_plan) (λ t looks to. to) is

@@ -1,5 +1,5 @@
 pub mod TreeReading
 pub mod GoodTrees
 pub mod FirstReason
-pub mod Certified
+pub mod Claims
 pub mod Steps

@@ -1,11 +1,10 @@
 //! Whether a claim holds, and the ticks that its trees are about.
 
-ghost use Rattle.std.specs.Prelude.{◌≡◌, ◌↔◌, ◌≤◌, IfOk, IfErr, IfSome, IsTrue, false, length};
+ghost use Rattle.std.specs.Prelude.{◌≡◌, ◌≤◌, IfOk, IfErr, IfSome, length};
 ghost use Rattle.hold_limits.specs.Placement.{IsAdmissible, distance};
 ghost use Rattle.price_trees.specs.Narrowing.{window, ticks_within};
 ghost use Rattle.certificate.specs.Evidence.{claimed};
 ghost use Rattle.choice_prices.specs.Pricing.{ticks_of};
-ghost use Rattle.tree_checker.specs.Certified.{ClaimsPath, ClaimsNone};
 ghost use Rattle.tree_checker.specs.GoodTrees.{nearer_ticks};
 ghost use Rattle.tree_checker.specs.Steps.{path_of, path_or_empty, IsMeasured};
 ghost use Rattle.tree_checker.specs.declared.rejection.TreeRejection.TheVariants.{NotAPlacement};
@@ -14,24 +13,12 @@ use crate::rejection::TreeRejection;
 use certificate::Claim;
 use hold_limits::{Path, Task, is_admissible, outcome};
 use hold_reach::Span;
-use tree_certificate::TreeCertificate;
 
 /// A claimed path, and how far its take-off index lies from the ideal band, in ticks.
 #[derive(Clone, Copy)]
 pub struct Claimed<'a> {
     pub path: &'a Path,
     pub distance: u64,
-}
-
-/// Whether the certificate claims a path.
-pub fn claims_path(certificate: &TreeCertificate) -> bool
-    ensures path { IsTrue result ↔ ClaimsPath certificate.now }
-    ensures none { result ≡ false ↔ ClaimsNone certificate.now }
-{
-    match &certificate.claim {
-        Claim::Best(_) => true,
-        Claim::NoneFits => false,
-    }
 }
 
 /// The claimed path with its distance, if one is claimed. It is refused where it is not admissible.

@@ -6,7 +6,6 @@ mod checks;
 mod claim;
 mod evidence;
 mod laws;
-mod no_plan;
 mod operations;
 mod proven;
 mod rejection;
@@ -16,6 +15,5 @@ mod walk;
 
 pub use checks::check_trees;
 pub use laws::tree_certificate_laws;
-pub use no_plan::NoPlanByTrees;
-pub use proven::ProvenByTrees;
+pub use proven::{NoPlanByTrees, ProvenByTrees, no_plan_by_trees, proven_by_trees};
 pub use rejection::TreeRejection;

@@ -2,7 +2,8 @@
 use Rattle.std.specs.Prelude.{◌≡◌, ℕ}
 use Rattle.hold_limits.specs.Problem.{Problem}
 use Rattle.tree_certificate.specs.declared.parts.TreeCertificate.{TreeCertificate}
-use Rattle.tree_checker.specs.Certified.{tree_certified, IsGoodFor}
+use Rattle.cert_checker.specs.Certified.{certified}
+use Rattle.tree_checker.specs.Claims.{IsGoodFor}
 use Rattle.tree_search.specs.declared.answer.TreeAnswer.{TreeAnswer}
 use Rattle.tree_search.specs.declared.answer.TreeAnswer.TheVariants.{Best, NoneFits, Undecided}
 
@@ -14,6 +15,6 @@ IsTreeAnswerTo t looks (Undecided n) = n ≡ looks
 
 -- The answer to a task to which a certificate leads: the certificate is its evidence, unless it is not good.
 abbrev pub IsAnswerWith : Problem → TreeCertificate → ℕ → TreeAnswer → Type 0
-IsAnswerWith t c looks (Best proven) = proven ≡ tree_certified t c
-IsAnswerWith t c looks (NoneFits no_plan) = no_plan ≡ tree_certified t c
+IsAnswerWith t c looks (Best proven) = proven ≡ certified t c
+IsAnswerWith t c looks (NoneFits no_plan) = no_plan ≡ certified t c
 IsAnswerWith t c looks (Undecided n) = (n ≡ looks) × (IsGoodFor t c → ⊥)

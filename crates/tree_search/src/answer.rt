@@ -1,7 +1,7 @@
 //! The answer to a task, which is checked before it is told.
 
 ghost use Rattle.std.specs.Prelude.{◌≡◌, ◌≢◌, IfOk};
-ghost use Rattle.tree_checker.specs.Certified.{ClaimsPath, ClaimsNone};
+ghost use Rattle.tree_checker.specs.Claims.{ClaimsPath, ClaimsNone};
 ghost use Rattle.tree_search.specs.declared.answer.TreeAnswer.TheVariants.{Undecided};
 ghost use Rattle.tree_search.specs.TreeAnswers.{IsAnswerWith, IsTreeAnswerTo};
 
@@ -15,7 +15,10 @@ use hold_choices::Choices;
 use hold_limits::Task;
 use std::alloc::Global;
 use tree_certificate::{Operation, Sibling, TreeCertificate};
-use tree_checker::{NoPlanByTrees, ProvenByTrees, TreeRejection, tree_certificate_laws};
+use tree_checker::{
+    NoPlanByTrees, ProvenByTrees, TreeRejection, no_plan_by_trees, proven_by_trees,
+    tree_certificate_laws,
+};
 use tree_finder::{Finder, Ground, load_for};
 
 /// What the search for the best path of a task ends with.
@@ -135,7 +138,7 @@ fn with_path(
     ensures { IfOk result (IsAnswerWith task certificate looks) }
 {
     tree_certificate_laws();
-    match ProvenByTrees::new(alloc, task, certificate) {
+    match proven_by_trees(alloc, task, certificate) {
         Ok(proven) => Ok(TreeAnswer::Best(proven)),
         Err(rejection) => undecided(rejection, looks),
     }
@@ -152,7 +155,7 @@ fn without_path(
     ensures { IfOk result (IsAnswerWith task certificate looks) }
 {
     tree_certificate_laws();
-    match NoPlanByTrees::new(alloc, task, certificate) {
+    match no_plan_by_trees(alloc, task, certificate) {
         Ok(no_plan) => Ok(TreeAnswer::NoneFits(no_plan)),
         Err(rejection) => undecided(rejection, looks),
     }

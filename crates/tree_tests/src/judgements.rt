@@ -5,7 +5,7 @@ use problem_text::read_task;
 use std::alloc::Global;
 use std::test::Fail;
 use tree_certificate::read_trees;
-use tree_checker::{NoPlanByTrees, ProvenByTrees, check_trees};
+use tree_checker::{check_trees, no_plan_by_trees, proven_by_trees};
 
 // The best path is 12 41, with a distance of 40,000 ticks.
 const TASK: &[u8] = b"TASK 1
@@ -186,7 +186,7 @@ Err(WrongSibling(0))|CROSSED|none~any~least 0 11";
 fn proven_path(alloc: Global) -> Result<String, Fail> {
     let task = read_task(alloc, TASK)?;
     let certificate = read_trees(alloc, &task, CERTIFICATE.as_bytes())?;
-    let proven = ProvenByTrees::new(alloc, task, certificate)?;
+    let proven = proven_by_trees(alloc, task, certificate)?;
     Ok(format!(in alloc; "{:?}", proven.path().as_slice())?)
 }
 
@@ -194,7 +194,7 @@ fn proven_path(alloc: Global) -> Result<String, Fail> {
 fn items_without_plan(alloc: Global) -> Result<usize, Fail> {
     let task = read_task(alloc, CROSSED)?;
     let certificate = read_trees(alloc, &task, b"CERTIFICATE 3\nnone\nany\nEND\n")?;
-    let no_plan = NoPlanByTrees::new(alloc, task, certificate)?;
+    let no_plan = no_plan_by_trees(alloc, task, certificate)?;
     Ok(no_plan.task().items().len())
 }
 

@@ -1,17 +1,10 @@
--- a task with a certificate of trees, as contracts see them, and what the certificate claims
+-- what a certificate of trees claims of its task
 use Rattle.std.specs.Prelude.{IsSome, IsNone}
 use Rattle.hold_limits.specs.Problem.{Problem}
 use Rattle.certificate.specs.Evidence.{claimed}
 use Rattle.tree_certificate.specs.declared.parts.TreeCertificate.{TreeCertificate}
 use Rattle.tree_certificate.specs.Listed.{listed_trees}
 use Rattle.tree_checker.specs.GoodTrees.{IsGoodTrees}
-
-pub record TreeCertified : Type 0 where
-  pub task : Problem
-  pub certificate : TreeCertificate
-
-abbrev pub tree_certified : Problem → TreeCertificate → TreeCertified
-tree_certified t c = record { task = t; certificate = c }
 
 -- the certificate is good for the task
 abbrev pub IsGoodFor : Problem → TreeCertificate → Type 0
