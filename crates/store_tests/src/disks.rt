@@ -4,7 +4,7 @@ ghost use Rattle.std.specs.Prelude.{IsTrue, IfOk};
 use crate::rows::{are, row};
 use crate::tables::{commit, load, prepare};
 use keeper::KeptRow;
-use sqlite::{Connection, FileStore, Files, Options};
+use sqlite::{Alter, Connection, FileStore, Files, Options};
 use sqlite_disk::{Crash, Disk, Fuse, Memory};
 use std::alloc::Global;
 use std::test::Fail;
@@ -34,10 +34,10 @@ struct Images {
 
 /// What is left of a run that committed one row.
 #[derive(Drop)]
-struct Ran {
+struct Ran<D: Disk> {
     is_acknowledged: bool,
     is_stopped: bool,
-    files: Files<Fuse<Memory>>,
+    files: Files<D>,
 }
 
 /// A disk that holds these bytes, and stops after so many calls.
@@ -59,9 +59,11 @@ fn disks(alloc: Global, held: &Images, log: u64, db: u64) -> Result<Files<Fuse<M
     })
 }
 
+// The functions over any disk do not carry in their proofs what the disks of these tests are made of.
+
 /// Opens the disks as a keeper opens its file, commits the row, and closes them.
-fn commit_over(alloc: Global, files: Files<Fuse<Memory>>, row: &KeptRow) -> Ran
-    requires { IsTrue (⟦<Fuse<Memory> as Disk>⟧.is_usable files.log) × IsTrue (⟦<Fuse<Memory> as Disk>⟧.is_usable files.db) }
+fn commit_over<D: Disk + Drop>(alloc: Global, files: Files<D>, row: &KeptRow) -> Ran<D>
+    requires { IsTrue (D.is_usable files.log) × IsTrue (D.is_usable files.db) }
 {
     match Connection::open_files(alloc, files, options()) {
         Ok(conn) => commit_and_close(alloc, conn, row),
@@ -73,11 +75,11 @@ fn commit_over(alloc: Global, files: Files<Fuse<Memory>>, row: &KeptRow) -> Ran
     }
 }
 
-fn commit_and_close(
+fn commit_and_close<D: Disk + Drop>(
     alloc: Global,
-    mut conn: Connection<FileStore<Fuse<Memory>>>,
+    mut conn: Connection<FileStore<D>>,
     row: &KeptRow,
-) -> Ran {
+) -> Ran<D> {
     let is_acknowledged = prepare(alloc, &mut conn).is_ok()
         && commit(alloc, &mut conn, row).is_ok();
     if !is_acknowledged {
@@ -111,13 +113,22 @@ fn after_crash(files: Files<Fuse<Memory>>) -> Files<Fuse<Memory>>
     Files { log, db }
 }
 
+/// The rows that a database has, which is let go.
+fn rows_in<S: Alter + Drop>(alloc: Global, mut conn: Connection<S>) -> Result<Vec<KeptRow>, Fail> {
+    Ok(load(alloc, &mut conn)?)
+}
+
 /// The rows that the next open finds.
-fn rows_on(alloc: Global, files: Files<Fuse<Memory>>) -> Result<Vec<KeptRow>, Fail>
-    requires { IsTrue (⟦<Fuse<Memory> as Disk>⟧.is_usable files.log) × IsTrue (⟦<Fuse<Memory> as Disk>⟧.is_usable files.db) }
+fn rows_on<D: Disk + Drop>(alloc: Global, files: Files<D>) -> Result<Vec<KeptRow>, Fail>
+    requires { IsTrue (D.is_usable files.log) × IsTrue (D.is_usable files.db) }
 {
     match Connection::open_files(alloc, files, options()) {
-        Ok(mut conn) => Ok(load(alloc, &mut conn)?),
-        Err(_) => Err(Fail::from("the disks are not opened again")),
+        Ok(conn) => rows_in(alloc, conn),
+        Err((_, left)) => {
+            // The files alone: more may be left, and all of it would be proved here.
+            drop(left.into_files());
+            Err(Fail::from("the disks are not opened again"))
+        }
     }
 }
 

@@ -1,8 +1,9 @@
 // The keeper over files of the system.
 use crate::rows::{are, row};
+use crate::tables::run;
 use keeper::{KeepFault, Keeper};
 use sqlite::Connection;
-use sqlite_keeper::SqliteKeeper;
+use sqlite_keeper::{SqliteKeeper, StoreRuntime};
 use std::alloc::Global;
 use std::test::Fail;
 use std::{env, fs, process};
@@ -26,12 +27,16 @@ fn remove(rt: &HostRuntime, path: &str) -> Result<(), Fail> {
     Ok(())
 }
 
-fn keeper_at(rt: HostRuntime, path: &str) -> Result<SqliteKeeper<HostRuntime>, Fail> {
-    Ok(SqliteKeeper::new(rt, String::from_str(rt.alloc(), path)?))
-}
+// What a test does with keepers stands in functions over any runtime, or any keeper. In the test itself a keeper has a
+// connection, with all that it is made of, and each line of the proof would carry it.
 
-// What a test does with a keeper stands in functions over a borrowed one. In the test itself each `?` would let go of the
-// keeper, which has a connection, and each of these ends would be proved.
+fn keeper_at<Rt: StoreRuntime + Drop>(
+    rt: Rt,
+    alloc: Global,
+    path: &str,
+) -> Result<SqliteKeeper<Rt>, Fail> {
+    Ok(SqliteKeeper::new(rt, String::from_str(alloc, path)?))
+}
 
 /// Commits these bytes under this key.
 fn put<K: Keeper>(alloc: Global, keeper: &mut K, key: &[u8], bytes: &[u8]) -> Result<(), Fail> {
@@ -67,48 +72,59 @@ fn fails<K: Keeper>(alloc: Global, keeper: &mut K) -> Result<bool, Fail> {
     )
 }
 
+/// Whether the first load and the first commit of a keeper at this path are failures.
+fn fails_at<Rt: StoreRuntime + Drop>(rt: Rt, alloc: Global, path: &str) -> Result<bool, Fail> {
+    fails(alloc, &mut keeper_at(rt, alloc, path)?)
+}
+
 /// The rows that are in a store then.
 const COMMITTED: &[(&[u8], &[u8])] = &[(b"XX10-12", b"FLIGHT 1\n"), (b"XX2-12", b"three")];
 
-/// Whether the second keeper loads what the first one commits, and both keep what each adds.
-fn load_the_same<K: Keeper>(alloc: Global, first: &mut K, second: &mut K) -> Result<bool, Fail> {
-    let is_empty = has(alloc, first, &[]) && has(alloc, second, &[]);
-    commit_rows(alloc, first)?;
-    let are_there = has(alloc, second, COMMITTED);
-    put(alloc, second, b"XX2-12", b"four")?;
-    put(alloc, first, b"XX3-12", b"five")?;
-    Ok(is_empty && are_there)
-}
-
-/// The rows that are in a store after both.
+/// The rows that are in a store after both of two keepers.
 const OF_BOTH: &[(&[u8], &[u8])] = &[
     (b"XX10-12", b"FLIGHT 1\n"),
     (b"XX2-12", b"four"),
     (b"XX3-12", b"five"),
 ];
 
+/// Whether the second keeper loads what the first one commits, and both keep what each adds, also when the first is gone.
+fn load_the_same<Rt: StoreRuntime + Copy + Drop>(
+    rt: Rt,
+    alloc: Global,
+    path: &str,
+) -> Result<bool, Fail> {
+    let mut first = keeper_at(rt, alloc, path)?;
+    let mut second = keeper_at(rt, alloc, path)?;
+    let is_empty = has(alloc, &mut first, &[]) && has(alloc, &mut second, &[]);
+    commit_rows(alloc, &mut first)?;
+    let are_there = has(alloc, &mut second, COMMITTED);
+    put(alloc, &mut second, b"XX2-12", b"four")?;
+    put(alloc, &mut first, b"XX3-12", b"five")?;
+    drop(first);
+    Ok(is_empty && are_there && has(alloc, &mut second, OF_BOTH))
+}
+
 #[test]
 fn another_keeper_loads_what_was_committed(rt: HostRuntime) -> Result<(), Fail> {
-    let alloc = rt.alloc();
     let path = path_of(&rt, "rows")?;
-    let mut first = keeper_at(rt, path.as_str())?;
-    let mut second = keeper_at(rt, path.as_str())?;
-    let are_loaded = load_the_same(alloc, &mut first, &mut second);
-    drop(first);
-    let are_all_there = has(alloc, &mut second, OF_BOTH);
-    drop(second);
-    assert!(rt; are_loaded? && are_all_there);
+    assert!(rt; load_the_same(rt, rt.alloc(), path.as_str())?);
     remove(&rt, path.as_str())
 }
 
 /// Whether each of two keepers loads what the other one committed, in turns.
-fn take_turns<K: Keeper>(alloc: Global, first: &mut K, second: &mut K) -> Result<bool, Fail> {
+fn take_turns<Rt: StoreRuntime + Copy + Drop>(
+    rt: Rt,
+    alloc: Global,
+    path: &str,
+) -> Result<bool, Fail> {
+    let mut first = keeper_at(rt, alloc, path)?;
+    let mut second = keeper_at(rt, alloc, path)?;
     for turn in 0..10u8 {
-        put(alloc, first, b"XX1-12", &[turn])?;
-        let is_own = has(alloc, first, &[(b"XX1-12", &[turn])]);
-        put(alloc, second, b"XX1-12", &[100 + turn])?;
+        put(alloc, &mut first, b"XX1-12", &[turn])?;
+        let is_own = has(alloc, &mut first, &[(b"XX1-12", &[turn])]);
+        put(alloc, &mut second, b"XX1-12", &[100 + turn])?;
         let wanted: &[(&[u8], &[u8])] = &[(b"XX1-12", &[100 + turn])];
-        if !is_own || !has(alloc, second, wanted) || !has(alloc, first, wanted) {
+        if !is_own || !has(alloc, &mut second, wanted) || !has(alloc, &mut first, wanted) {
             return Ok(false);
         }
     }
@@ -119,21 +135,16 @@ fn take_turns<K: Keeper>(alloc: Global, first: &mut K, second: &mut K) -> Result
 #[test]
 fn two_keepers_take_turns(rt: HostRuntime) -> Result<(), Fail> {
     let path = path_of(&rt, "turns")?;
-    let mut first = keeper_at(rt, path.as_str())?;
-    let mut second = keeper_at(rt, path.as_str())?;
-    let are_seen = take_turns(rt.alloc(), &mut first, &mut second);
-    drop(first);
-    drop(second);
-    assert!(rt; are_seen?);
+    assert!(rt; take_turns(rt, rt.alloc(), path.as_str())?);
     remove(&rt, path.as_str())
 }
 
 /// Writes the bytes of a row as another program would, and copies the log into the file.
 fn rewrite(rt: &HostRuntime, path: &str, update: &str) -> Result<(), Fail> {
     let mut conn = Connection::open(rt, path)?;
-    conn.execute(update, &[])?;
+    let done = run(&mut conn, update);
     conn.close()?;
-    Ok(())
+    Ok(done?)
 }
 
 /// The rows that are in a store that another program wrote to.
@@ -153,17 +164,23 @@ fn follows<K: Keeper>(rt: &HostRuntime, path: &str, keeper: &mut K) -> Result<bo
     Ok(is_read && has(alloc, keeper, REWRITTEN))
 }
 
+/// Whether a keeper does so, and another one loads the rows too when it is gone.
+fn both_follow<Rt: StoreRuntime + Copy + Drop>(
+    host: &HostRuntime,
+    rt: Rt,
+    path: &str,
+) -> Result<bool, Fail> {
+    let mut keeper = keeper_at(rt, host.alloc(), path)?;
+    let is_followed = follows(host, path, &mut keeper)?;
+    drop(keeper);
+    let mut next = keeper_at(rt, host.alloc(), path)?;
+    Ok(is_followed && has(host.alloc(), &mut next, REWRITTEN))
+}
+
 #[test]
 fn what_another_program_writes_is_read(rt: HostRuntime) -> Result<(), Fail> {
     let path = path_of(&rt, "other-program")?;
-    let mut keeper = keeper_at(rt, path.as_str())?;
-    let is_followed = follows(&rt, path.as_str(), &mut keeper);
-    drop(keeper);
-    assert!(rt; is_followed?);
-    let mut next = keeper_at(rt, path.as_str())?;
-    let is_there = has(rt.alloc(), &mut next, REWRITTEN);
-    drop(next);
-    assert!(rt; is_there);
+    assert!(rt; both_follow(&rt, rt, path.as_str())?);
     remove(&rt, path.as_str())
 }
 
@@ -185,20 +202,27 @@ fn misses<K: Keeper>(
     Ok(is_missed && is_told_from_a_copy && has(alloc, keeper, COMMITTED))
 }
 
+/// Whether a new keeper does so.
+fn new_one_misses<Rt: StoreRuntime + Drop>(
+    host: &HostRuntime,
+    rt: Rt,
+    path: &str,
+    other: &str,
+) -> Result<bool, Fail> {
+    let mut keeper = keeper_at(rt, host.alloc(), path)?;
+    misses(host, path, other, &mut keeper)
+}
+
 #[test]
 fn a_store_that_was_moved_away_is_a_failure(rt: HostRuntime) -> Result<(), Fail> {
     let (path, other) = (path_of(&rt, "place")?, path_of(&rt, "other-place")?);
-    let mut keeper = keeper_at(rt, path.as_str())?;
-    let is_missed = misses(&rt, path.as_str(), other.as_str(), &mut keeper);
-    drop(keeper);
-    assert!(rt; is_missed?);
+    assert!(rt; new_one_misses(&rt, rt, path.as_str(), other.as_str())?);
     remove(&rt, path.as_str())
 }
 
 #[test]
 fn a_folder_that_does_not_exist_is_a_failure(rt: HostRuntime) -> Result<(), Fail> {
-    let mut keeper = keeper_at(rt, "no/such/folder/flights.db")?;
-    assert!(rt; fails(rt.alloc(), &mut keeper)?);
+    assert!(rt; fails_at(rt, rt.alloc(), "no/such/folder/flights.db")?);
     Ok(())
 }
 
@@ -207,8 +231,7 @@ fn a_file_that_is_no_database_is_a_failure_and_stays(rt: HostRuntime) -> Result<
     let path = path_of(&rt, "text")?;
     let text = b"this is no database\n".as_slice();
     fs::write(&rt, path.as_str(), text)?;
-    let mut keeper = keeper_at(rt, path.as_str())?;
-    assert!(rt; fails(rt.alloc(), &mut keeper)?);
+    assert!(rt; fails_at(rt, rt.alloc(), path.as_str())?);
     assert_eq!(rt; fs::read(&rt, path.as_str())?.as_slice(), text);
     remove(&rt, path.as_str())
 }

@@ -1,7 +1,7 @@
 // The statements over a database in memory.
 use crate::rows::{are, row};
 use keeper::{KeepFault, KeptRow};
-use sqlite::{Alter, Connection};
+use sqlite::{Alter, Connection, Error};
 use sqlite_keeper::{commit_row, load_rows, prepare_rows};
 use std::alloc::Global;
 use std::test::Fail;
@@ -23,7 +23,7 @@ pub fn load<S: Alter>(alloc: Global, conn: &mut Connection<S>) -> Result<Vec<Kep
     load_rows(alloc, conn)
 }
 
-fn run<S: Alter>(conn: &mut Connection<S>, sql: &str) -> Result<(), Fail> {
+pub fn run<S: Alter>(conn: &mut Connection<S>, sql: &str) -> Result<(), Error> {
     conn.execute(sql, &[])?;
     Ok(())
 }
