@@ -4,7 +4,7 @@ use Rattle.desk_requests.specs.declared.wanted.Wanted.{Wanted}
 use Rattle.desk_requests.specs.declared.wanted.Wanted.TheVariants.{Set, Plan}
 use Rattle.desk_requests.specs.declared.asked.Asked.{Asked}
 use Rattle.desk_requests.specs.declared.asked.Asked.TheVariants as asked
-use Rattle.std.specs.Prelude.{ℕ, ◌≤◌}
+use Rattle.std.specs.Prelude.{◌≤◌}
 
 -- the figures are within the limits of an office, and a budget within those of a plan
 abbrev pub IsWithin : Wanted → Type 0
