@@ -108,7 +108,7 @@ side_at-bound hold q = by_side (is_right hold q) (is_left hold q)
     by_side false false = omega arith
 
 -- what a container of a lawful task adds on a position
-amount-bound : (e : Extent) (t : Problem) → IsLawful t → (item : Item) (q : ℕ) → item.mass.0 ≤ 20000 → unsigned_abs (amount_of e t.hold (item, q)) ≤ 2000000000
+pub amount-bound : (e : Extent) (t : Problem) → IsLawful t → (item : Item) (q : ℕ) → item.mass.0 ≤ 20000 → unsigned_abs (amount_of e t.hold (item, q)) ≤ 2000000000
 amount-bound Reach t lawful item q light = moment-bound item.mass.0 _ light (influence_at-bound t (lawful-bounds t lawful) q)
 amount-bound WideReach t lawful item q light = moment-bound item.mass.0 _ light (influence_at-bound t (lawful-bounds t lawful) q)
 amount-bound LateralReach t lawful item q light = moment-bound item.mass.0 _ light (omega (arith, side_at-bound t.hold q))

@@ -59,7 +59,7 @@ IsRising-next t prefix item q rising next = (
 -- One position more -----------------------------------------------------------------------------
 
 -- the containers that a prefix leaves are the next one and those that the longer prefix leaves
-remaining-next : (t : Problem) (prefix : List ℕ) (item : Item) (q : ℕ) → slice_get (ordered t.items) (length prefix) ≡ Some item → remaining t prefix ≡ item ∷ remaining t (prefix ++ q ∷ [])
+pub remaining-next : (t : Problem) (prefix : List ℕ) (item : Item) (q : ℕ) → slice_get (ordered t.items) (length prefix) ≡ Some item → remaining t prefix ≡ item ∷ remaining t (prefix ++ q ∷ [])
 remaining-next t prefix item q next =
     let inside : length prefix < length (ordered t.items) = slice_get_within (ordered t.items) (length prefix) item next in
     let longer : suc (length prefix) ≡ length (prefix ++ q ∷ []) = omega (arith, length-append prefix (q ∷ [])) in
@@ -73,7 +73,7 @@ still_free t prefix q p given = record {
   compatible = All-front (λ used. Exclude t.hold used p.1 → ⊥) prefix (q ∷ []) given.compatible;
 }
 
-still_open : (t : Problem) (prefix : List ℕ) (item : Item) (q : ℕ) → slice_get (ordered t.items) (length prefix) ≡ Some item → (p : Placed) → IsOpen t (prefix ++ q ∷ []) p.0 p.1 → IsOpen t prefix p.0 p.1
+pub still_open : (t : Problem) (prefix : List ℕ) (item : Item) (q : ℕ) → slice_get (ordered t.items) (length prefix) ≡ Some item → (p : Placed) → IsOpen t (prefix ++ q ∷ []) p.0 p.1 → IsOpen t prefix p.0 p.1
 still_open t prefix item q next p given =
     let P : Placed → Type 0 = λ other. AreTwins other.0 p.0 → other.1 < p.1 in
     record {
@@ -81,7 +81,7 @@ still_open t prefix item q next p given =
       above_twins = All-front P (placed t prefix) ((item, q) ∷ []) (subst (λ (ps : List Placed). All P ps) (placed-push t prefix item q next) given.above_twins);
     }
 
-free_before : (t : Problem) (prefix : List ℕ) (item : Item) (q : ℕ) → slice_get (ordered t.items) (length prefix) ≡ Some item → IsSound t (prefix ++ q ∷ []) → IsFree t prefix item q
+pub free_before : (t : Problem) (prefix : List ℕ) (item : Item) (q : ℕ) → slice_get (ordered t.items) (length prefix) ≡ Some item → IsSound t (prefix ++ q ∷ []) → IsFree t prefix item q
 free_before t prefix item q next sound =
     let last = IsSound-last t prefix item q next sound in
     record { accepted = last.accepted; unused = last.unused; compatible = last.compatible }
@@ -130,7 +130,7 @@ lateral_difference-next t prefix item q next =
     ∙ turned (int_sum_by (placed_lateral t.hold) (placed t prefix)) (placed_lateral t.hold (item, q)) (int_sum_by (loose_lateral t.hold) t.loose)
 
 -- where all that one span allows is allowed by another, the first lies in the second
-spans-lie : (reached : Option (ℤ × ℤ)) (Outer Inner : ℤ → Type 0) (inner : ℤ × ℤ) → ((x : ℤ) → Inner x → Outer x) → IsSpanOf Inner inner → Spans reached Outer → IsSomeAnd reached (LiesIn inner)
+pub spans-lie : (reached : Option (ℤ × ℤ)) (Outer Inner : ℤ → Type 0) (inner : ℤ × ℤ) → ((x : ℤ) → Inner x → Outer x) → IsSpanOf Inner inner → Spans reached Outer → IsSomeAnd reached (LiesIn inner)
 spans-lie None Outer Inner inner allows is none = absurd (none inner.0 (allows inner.0 is.least))
 spans-lie (Some outer) Outer Inner inner allows is outer_is =
     ((outer_is.between inner.0 (allows inner.0 is.least)).0, (outer_is.between inner.1 (allows inner.1 is.greatest)).1)
@@ -138,7 +138,7 @@ spans-lie (Some outer) Outer Inner inner allows is outer_is =
 span-of : (reached : Option (ℤ × ℤ)) (Allowed : ℤ → Type 0) (span : ℤ × ℤ) → reached ≡ Some span → Spans reached Allowed → IsSpanOf Allowed span
 span-of reached Allowed span is spans = subst (λ o. Spans o Allowed) is spans
 
-next-of : (t : Problem) (prefix : List ℕ) (q : ℕ) → IsSound t (prefix ++ q ∷ []) → (item : Item) × (slice_get (ordered t.items) (length prefix) ≡ Some item)
+pub next-of : (t : Problem) (prefix : List ℕ) (q : ℕ) → IsSound t (prefix ++ q ∷ []) → (item : Item) × (slice_get (ordered t.items) (length prefix) ≡ Some item)
 next-of t prefix q sound = next-item t (length prefix) (omega (arith, sound.short, length-append prefix (q ∷ [])))
 
 -- each reach is no less and no greater with one position fewer
@@ -306,7 +306,7 @@ not_less : (x y : ℤ) → y ≤ℤ x → int_lt x y ≡ false
 not_less x y is = grind (arith, ints)
 
 -- no index between a and b is nearer to the band than their gap
-gap-most : (a b c d x : ℤ) → c ≤ℤ d → a ≤ℤ x → x ≤ℤ b → gap a b c d ≤ distance_to c d x
+pub gap-most : (a b c d x : ℤ) → c ≤ℤ d → a ≤ℤ x → x ≤ℤ b → gap a b c d ≤ distance_to c d x
 gap-most a b c d x band low high = ⊎_elim
     (λ (before : int_lt b c ≡ true).
     let below : int_lt x c ≡ true = less x c (omega (arith, ints)) in
@@ -324,7 +324,7 @@ gap-most a b c d x band low high = ⊎_elim
     less x y is = grind (arith, ints)
 
 -- the gap of a reach is at most the distance of what is reached
-gap-below : (t : Problem) (reached : Option (ℤ × ℤ)) (index : ℤ) → t.ideal_low ≤ℤ t.ideal_high → IsSomeAnd reached (λ span. IsWithin span index)
+pub gap-below : (t : Problem) (reached : Option (ℤ × ℤ)) (index : ℤ) → t.ideal_low ≤ℤ t.ideal_high → IsSomeAnd reached (λ span. IsWithin span index)
     → IsSomeAnd (option_map (gap_to_ideal t) reached) (λ b. b ≤ distance_at t index)
 gap-below t None index band is = absurd is
 gap-below t (Some span) index band is =
@@ -346,7 +346,7 @@ in_band : (c d x : ℤ) → c ≤ℤ x → x ≤ℤ d → distance_to c d x ≡ 
 in_band c d x from to = rw (not_less x c from, not_less d x to) refl
 
 -- the bound is the distance to the nearest index in reach
-gap-nearest : (t : Problem) (span : ℤ × ℤ) → t.ideal_low ≤ℤ t.ideal_high → span.0 ≤ℤ span.1 → IsNearest t span (gap_to_ideal t span)
+pub gap-nearest : (t : Problem) (span : ℤ × ℤ) → t.ideal_low ≤ℤ t.ideal_high → span.0 ≤ℤ span.1 → IsNearest t span (gap_to_ideal t span)
 gap-nearest t span band rising = ⊎_elim
     (λ (before : int_lt high t.ideal_low ≡ true). record {
       index = span.1;

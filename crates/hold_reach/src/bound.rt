@@ -23,7 +23,7 @@ fn gap_between(indices: Span, ideal: Span) -> u64
 /// How far the take-off indices lie from the ideal band, in ticks, where the hold index goes over this span.
 pub fn gap_to_ideal(task: &Task, hold_indices: Span) -> u64
     requires lawful { IsLawful task.now }
-    requires bounded { IsBounded 1000000000000 hold_indices }
+    requires bounded { IsBounded 10000000000000000 hold_indices }
     ensures { result ≡ gap_to_ideal task.now (hold_indices.low, hold_indices.high) }
 {
     let ideal = Span {

@@ -39,8 +39,8 @@ impl Span {
 
     /// The span from the sum of the lows to the sum of the highs.
     pub fn plus(self, other: Span) -> Span
-        requires bounded { IsBounded 1000000000000 self }
-        requires other_bounded { IsBounded 1000000000000 other }
+        requires bounded { IsBounded 10000000000000000 self }
+        requires other_bounded { IsBounded 10000000000000000 other }
         ensures low { result.low ≡ self.low +ℤ other.low }
         ensures high { result.high ≡ self.high +ℤ other.high }
     {
