@@ -10,6 +10,7 @@ use Rattle.hold_limits.specs.Placement.{IsSound}
 use Rattle.hold_limits.proofs.SoundLemmas.{IsSound-extends, IsSound-within, Extends-next, Extends-whole}
 use Rattle.hold_reach.specs.Reach.{IsViable}
 use Rattle.certificate.specs.Good.{IsBefore, IsUncut, AreInOrder}
+use Rattle.cert_checker.specs.FirstReason.{IsComplete}
 use Rattle.cert_checker.specs.Steps.{AreFirst}
 use Rattle.cert_checker.proofs.PathOrder.{none-before_nil, IsBefore-not_itself, IsBefore-trans, before-next, before-extension, before_longer-cases, before_next-cases, before_zero-cases, Extends-push_cases}
 use Rattle.cert_checker.proofs.ViableFronts.{IsViable-extends}
@@ -125,6 +126,16 @@ pub met-none : (cuts : List (List ℕ)) (n : ℕ) (front : List ℕ) (P : List �
 met-none cuts n front P all none first = AreFirst-same cuts n P (λ cut. IsBefore cut front) (λ cut. IsBefore cut front ⊎ Extends front cut) all
     (λ cut is earlier. inl earlier)
     (λ cut is either. ⊎_elim (λ earlier. earlier) (λ extends. absurd (none cut is extends)) either)
+    first
+
+-- where the front is complete and begins with no cut
+pub met-complete : (t : Problem) (cuts : List (List ℕ)) (n : ℕ) (front : List ℕ) → IsComplete t front → All (IsViable t) cuts → IsUncut cuts front
+    → AreFirst cuts n (λ cut. IsBefore cut front) → AreFirst cuts n (λ cut. IsBefore cut front ⊎ Extends front cut)
+met-complete t cuts n front complete viable uncut first = met-none cuts n front (λ cut. IsViable t cut × (Extends cut front → ⊥))
+    (λ at d within. (viable at d within, uncut at d within))
+    (λ cut both extends.
+    let same : cut ≡ front = Extends-whole front cut extends (omega (arith, complete, both.0.sound.short)) in
+    both.1 (subst (λ c. Extends c front) (sym same) (Extends-itself front)))
     first
 
 -- a front with a number that is not the next cut begins with no cut

@@ -18,7 +18,7 @@ use Rattle.hold_limits.proofs.TwinLemmas.{is_rising-Decides}
 use Rattle.hold_reach.specs.Reach.{Meets, IsViable, bound, reach, lateral_reach}
 use Rattle.hold_reach.proofs.CommonNumber.{common-from, common-bounds}
 use Rattle.certificate.specs.Good.{IsUncut, IsIncomplete, AreInOrder, HoldsNothingBetter, IsNoBetter, IsGood}
-use Rattle.cert_checker.specs.FirstReason.{ClaimHolds, CutsHold, IsTested, IsInOrder, CanBeCut, CutFails, IsComplete, Pass, PrefixFails, IsFirstReason}
+use Rattle.cert_checker.specs.FirstReason.{ClaimHolds, CutsHold, IsTested, IsInOrder, CanBeCut, CutFails, IsComplete, Pass, PrefixFails, IsFirstReason, AllPass}
 use Rattle.cert_checker.specs.Steps.{Stops}
 use Rattle.cert_checker.specs.declared.reject.Reject.{Reject}
 use Rattle.cert_checker.specs.declared.reject.Reject.TheVariants.{NotAPlacement, CutOrder, CutNotViable, CutWeak, Nearer, Exists, MoreExpanded}
@@ -241,6 +241,13 @@ prefix-reason t claim cuts allowed p stops = ⊎_elim
     by_claim None stops long = (Exists (record { items = p }), (refl, Stops-path t None cuts allowed p long stops))
     by_claim (Some path) stops long = (Nearer (record { items = p }), (refl, Stops-path t (Some path) cuts allowed p long stops))
 
+-- those that the cuts leave pass, or a first one fails
+pub passes-or_fails : (t : Problem) (claim : Option (List ℕ)) (cuts : List (List ℕ)) (allowed : ℕ) → ((reason : Reject) × PrefixFails t claim cuts allowed reason) ⊎ AllPass t claim cuts allowed
+passes-or_fails t claim cuts allowed = ⊎_elim
+    (λ passed. inr passed)
+    (λ stops. inl (prefix-reason t claim cuts allowed stops.0 stops.1))
+    (all-decided t claim cuts allowed)
+
 -- there is a first reason, or the certificate is good
 pub reason-or_good : (t : Problem) (claim : Option (List ℕ)) (cuts : List (List ℕ)) (expanded : ℕ) → ((reason : Reject) × IsFirstReason t claim cuts expanded reason) ⊎ IsGood t claim cuts expanded
 reason-or_good t claim cuts expanded = ⊎_elim
@@ -253,9 +260,9 @@ reason-or_good t claim cuts expanded = ⊎_elim
   where
     with_cuts : ClaimHolds t claim → CutsHold t claim cuts → ((reason : Reject) × IsFirstReason t claim cuts expanded reason) ⊎ IsGood t claim cuts expanded
     with_cuts holds hold = ⊎_elim
+        (λ fails. inl (fails.0, inr (holds, inr (hold, fails.1))))
         (λ passed. inr (IsGood-from t claim cuts expanded holds hold passed))
-        (λ stops. let fails = prefix-reason t claim cuts expanded stops.0 stops.1 in inl (fails.0, inr (holds, inr (hold, fails.1))))
-        (all-decided t claim cuts expanded)
+        (passes-or_fails t claim cuts expanded)
 
 -- a certificate without a reason against it is good
 pub good-without_reason : (t : Problem) (claim : Option (List ℕ)) (cuts : List (List ℕ)) (expanded : ℕ) → ((reason : Reject) → IsFirstReason t claim cuts expanded reason → ⊥) → IsGood t claim cuts expanded

@@ -186,6 +186,10 @@ one-prefix t claim cuts allowed a b first second = ⊎_elim
     rest)
     (before-or_same first.prefix second.prefix)
 
+-- what the cuts leave has one first fault
+pub one-prefix_fault : (t : Problem) (claim : Option (List ℕ)) (cuts : List (List ℕ)) (allowed : ℕ) (a b : Reject) → PrefixFails t claim cuts allowed a → PrefixFails t claim cuts allowed b → a ≡ b
+one-prefix_fault t claim cuts allowed a b first second = one-prefix t claim cuts allowed a b (stop-at t claim cuts allowed a first) (stop-at t claim cuts allowed b second)
+
 -- All together ----------------------------------------------------------------------------------
 
 cut-not_held : (t : Problem) (claim : Option (List ℕ)) (cuts : List (List ℕ)) (reason : Reject) → CutFails t claim cuts reason → CutsHold t claim cuts → ⊥
@@ -209,7 +213,7 @@ one-reason t claim cuts expanded a b first second = ⊎_elim
     other.1)
     (λ prefix. ⊎_elim
     (λ cut. absurd (cut-not_held t claim cuts b cut prefix.0))
-    (λ also. one-prefix t claim cuts expanded a b (stop-at t claim cuts expanded a prefix.1) (stop-at t claim cuts expanded b also.1))
+    (λ also. one-prefix_fault t claim cuts expanded a b prefix.1 also.1)
     other.1)
     one.1)
     second)

@@ -16,9 +16,9 @@ use Rattle.hold_limits.specs.Placement.{IsAdmissible}
 use Rattle.hold_limits.specs.Twins.{IsRising}
 use Rattle.hold_reach.specs.Reach.{IsViable}
 use Rattle.hold_reach.proofs.ViableLemmas.{IsViable-front, IsAdmissible-from_viable}
-use Rattle.certificate.specs.Good.{IsBefore, IsIncomplete, AreInOrder, HoldsNothingBetter, IsExpanded, IsGood}
-use Rattle.cert_checker.specs.FirstReason.{IsFirstReasonFor, ClaimHolds, CutsHold, IsInOrder, CutFails, IsReached, PathFails, OneTooMany, PrefixFails, IsFirstReason}
-use Rattle.cert_checker.specs.Steps.{Stops, AllPass}
+use Rattle.certificate.specs.Good.{IsBefore, IsIncomplete, AreInOrder, HoldsNothingBetter, IsExpanded, Covers, IsGood}
+use Rattle.cert_checker.specs.FirstReason.{IsFirstReasonFor, ClaimHolds, CutsHold, IsInOrder, CutFails, IsReached, PathFails, OneTooMany, PrefixFails, IsFirstReason, AllPass}
+use Rattle.cert_checker.specs.Steps.{Stops}
 use Rattle.cert_checker.specs.declared.reject.Reject.{Reject}
 use Rattle.cert_checker.specs.declared.reject.Reject.TheVariants.{NotAPlacement, CutOrder, CutNotViable, CutWeak, Nearer, Exists, MoreExpanded}
 use Rattle.cert_checker.proofs.PathOrder.{IsBefore-not_itself}
@@ -27,21 +27,27 @@ use Rattle.cert_checker.proofs.WalkLemmas.{Pass-same}
 
 -- Where all holds -------------------------------------------------------------------------------
 
-pub IsGood-from : (t : Problem) (claim : Option (List ℕ)) (cuts : List (List ℕ)) (expanded : ℕ) → ClaimHolds t claim → CutsHold t claim cuts → AllPass t claim cuts expanded → IsGood t claim cuts expanded
-IsGood-from t claim cuts expanded holds hold passed = record {
+pub Covers-from : (t : Problem) (claim : Option (List ℕ)) (cuts : List (List ℕ)) (expanded : ℕ) → ClaimHolds t claim → AllPairs AreInOrder cuts → All (IsViable t) cuts → All (IsIncomplete t) cuts
+    → AllPass t claim cuts expanded → Covers t claim cuts expanded
+Covers-from t claim cuts expanded holds rising viable incomplete passed = record {
   admissible = holds;
-  rising = hold.rising;
-  viable = hold.viable;
-  incomplete = hold.incomplete;
-  idle = hold.idle;
-  covered = λ path admissible rising uncut.
+  rising = rising;
+  viable = viable;
+  incomplete = incomplete;
+  covered = λ path admissible rises uncut.
       let whole : IsAdmissible t (path ++ []) = subst (IsAdmissible t) (sym (append-nil path)) admissible in
-      let viable = IsViable-front t path [] whole (subst (λ p. IsRising t p) (sym (append-nil path)) rising) in
-      passed.2.no_better path viable uncut admissible.complete (path, refl);
+      let front = IsViable-front t path [] whole (subst (λ p. IsRising t p) (sym (append-nil path)) rises) in
+      passed.2.no_better path front uncut admissible.complete (path, refl);
   few = λ lists different each.
       let most = AreExactly-most (λ p. IsExpanded t cuts p × Extends [] p) passed.0 passed.2.expanded lists different
       (All-weaker (IsExpanded t cuts) (λ p. IsExpanded t cuts p × Extends [] p) (λ p is. (is, (p, refl))) lists each) in
       omega (arith, most, passed.1);
+}
+
+pub IsGood-from : (t : Problem) (claim : Option (List ℕ)) (cuts : List (List ℕ)) (expanded : ℕ) → ClaimHolds t claim → CutsHold t claim cuts → AllPass t claim cuts expanded → IsGood t claim cuts expanded
+IsGood-from t claim cuts expanded holds hold passed = record {
+  covers = Covers-from t claim cuts expanded holds hold.rising hold.viable hold.incomplete passed;
+  idle = hold.idle;
 }
 
 -- Where there is a reason -----------------------------------------------------------------------
@@ -59,20 +65,20 @@ at-place P cuts at cut all stands = subst P (get_or_from_slice_get cuts at cut c
 
 cut-not_good : (t : Problem) (claim : Option (List ℕ)) (cuts : List (List ℕ)) (expanded : ℕ) (reason : Reject) → CutFails t claim cuts reason → IsGood t claim cuts expanded → ⊥
 cut-not_good t claim cuts expanded NotAPlacement fails good = fails
-cut-not_good t claim cuts expanded (CutOrder at) fails good = fails.2 (good-in_order cuts at fails.0 good.rising fails.1.stands)
+cut-not_good t claim cuts expanded (CutOrder at) fails good = fails.2 (good-in_order cuts at fails.0 good.covers.rising fails.1.stands)
 cut-not_good t claim cuts expanded (CutNotViable at) fails good =
-    fails.3 (at-place (IsViable t) cuts at fails.0 good.viable fails.1.stands, at-place (IsIncomplete t) cuts at fails.0 good.incomplete fails.1.stands)
+    fails.3 (at-place (IsViable t) cuts at fails.0 good.covers.viable fails.1.stands, at-place (IsIncomplete t) cuts at fails.0 good.covers.incomplete fails.1.stands)
 cut-not_good t claim cuts expanded (CutWeak at) fails good = fails.4 (at-place (HoldsNothingBetter t claim) cuts at fails.0 good.idle fails.1.stands)
 cut-not_good t claim cuts expanded (Nearer path) fails good = fails
 cut-not_good t claim cuts expanded (Exists path) fails good = fails
 cut-not_good t claim cuts expanded MoreExpanded fails good = fails
 
-path-not_good : (t : Problem) (claim : Option (List ℕ)) (cuts : List (List ℕ)) (expanded : ℕ) (path : List ℕ) → PathFails t claim cuts expanded path → IsGood t claim cuts expanded → ⊥
-path-not_good t claim cuts expanded path fails good =
-    fails.3 (good.covered path (IsAdmissible-from_viable t path fails.2 fails.1.viable) fails.1.viable.rising fails.1.uncut)
+path-not_covered : (t : Problem) (claim : Option (List ℕ)) (cuts : List (List ℕ)) (expanded : ℕ) (path : List ℕ) → PathFails t claim cuts expanded path → Covers t claim cuts expanded → ⊥
+path-not_covered t claim cuts expanded path fails covers =
+    fails.3 (covers.covered path (IsAdmissible-from_viable t path fails.2 fails.1.viable) fails.1.viable.rising fails.1.uncut)
 
-many-not_good : (t : Problem) (claim : Option (List ℕ)) (cuts : List (List ℕ)) (expanded : ℕ) → OneTooMany t claim cuts expanded → IsGood t claim cuts expanded → ⊥
-many-not_good t claim cuts expanded many good =
+many-not_covered : (t : Problem) (claim : Option (List ℕ)) (cuts : List (List ℕ)) (expanded : ℕ) → OneTooMany t claim cuts expanded → Covers t claim cuts expanded → ⊥
+many-not_covered t claim cuts expanded many covers =
     let prefix = many.0 in
     let reached = many.1 in
     let earlier = reached.before.expanded in
@@ -80,27 +86,28 @@ many-not_good t claim cuts expanded many good =
     let differ : All (λ q. prefix ≢ q) earlier.lists = All-weaker (λ p. IsExpanded t cuts p × IsBefore p prefix) (λ q. prefix ≢ q)
     (λ p both same. IsBefore-not_itself prefix (subst (λ x. IsBefore x prefix) (sym same) both.1)) earlier.lists earlier.of_kind in
     let each : All (IsExpanded t cuts) earlier.lists = All-weaker (λ p. IsExpanded t cuts p × IsBefore p prefix) (IsExpanded t cuts) (λ p both. both.0) earlier.lists earlier.of_kind in
-    let few = good.few (prefix ∷ earlier.lists)
+    let few = covers.few (prefix ∷ earlier.lists)
     (AllPairs-cons (λ p q. p ≢ q) prefix earlier.lists differ earlier.different)
     (All-cons (IsExpanded t cuts) prefix earlier.lists here each) in
     omega (arith, few, earlier.number)
 
-prefix-not_good : (t : Problem) (claim : Option (List ℕ)) (cuts : List (List ℕ)) (expanded : ℕ) (reason : Reject) → PrefixFails t claim cuts expanded reason → IsGood t claim cuts expanded → ⊥
-prefix-not_good t claim cuts expanded NotAPlacement fails good = fails
-prefix-not_good t claim cuts expanded (CutOrder at) fails good = fails
-prefix-not_good t claim cuts expanded (CutNotViable at) fails good = fails
-prefix-not_good t claim cuts expanded (CutWeak at) fails good = fails
-prefix-not_good t claim cuts expanded (Nearer path) fails good = path-not_good t claim cuts expanded path.items fails.1 good
-prefix-not_good t claim cuts expanded (Exists path) fails good = path-not_good t claim cuts expanded path.items fails.1 good
-prefix-not_good t claim cuts expanded MoreExpanded fails good = many-not_good t claim cuts expanded fails good
+-- what the cuts leave is not covered where a prefix of it fails
+pub prefix-not_covered : (t : Problem) (claim : Option (List ℕ)) (cuts : List (List ℕ)) (expanded : ℕ) (reason : Reject) → PrefixFails t claim cuts expanded reason → Covers t claim cuts expanded → ⊥
+prefix-not_covered t claim cuts expanded NotAPlacement fails covers = fails
+prefix-not_covered t claim cuts expanded (CutOrder at) fails covers = fails
+prefix-not_covered t claim cuts expanded (CutNotViable at) fails covers = fails
+prefix-not_covered t claim cuts expanded (CutWeak at) fails covers = fails
+prefix-not_covered t claim cuts expanded (Nearer path) fails covers = path-not_covered t claim cuts expanded path.items fails.1 covers
+prefix-not_covered t claim cuts expanded (Exists path) fails covers = path-not_covered t claim cuts expanded path.items fails.1 covers
+prefix-not_covered t claim cuts expanded MoreExpanded fails covers = many-not_covered t claim cuts expanded fails covers
 
 -- a good certificate has no reason against it
 pub reason-not_good : (t : Problem) (claim : Option (List ℕ)) (cuts : List (List ℕ)) (expanded : ℕ) (reason : Reject) → IsFirstReason t claim cuts expanded reason → IsGood t claim cuts expanded → ⊥
 reason-not_good t claim cuts expanded reason first good = ⊎_elim
-    (λ claimed. claimed.0 good.admissible)
+    (λ claimed. claimed.0 good.covers.admissible)
     (λ rest. ⊎_elim
     (λ fails. cut-not_good t claim cuts expanded reason fails good)
-    (λ fails. prefix-not_good t claim cuts expanded reason fails.1 good)
+    (λ fails. prefix-not_covered t claim cuts expanded reason fails.1 good.covers)
     rest.1)
     first
 

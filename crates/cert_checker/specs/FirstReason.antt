@@ -4,8 +4,11 @@
 -- incomplete, and to hold nothing better than the claimed path. Then come, in path order, the viable prefixes that begin with
 -- no cut: an incomplete one counts against the number of the certificate, and a complete one is to be no better than the
 -- claimed path. The first that fails is the reason.
-use Rattle.std.specs.Prelude.{◌≡◌, ◌≢◌, ℕ, ◌≤◌, ◌⊎◌, List, length, take, slice_get, All, AllPairs, Option, Some, IfSome, IsSome, IsNone}
+--
+-- What is said of the claim, and of the viable prefixes that begin with no cut, is the same of cuts of any kind.
+use Rattle.std.specs.Prelude.{◌≡◌, ◌≢◌, ℕ, ◌≤◌, ◌⊎◌, List, [], length, take, slice_get, All, AllPairs, Option, Some, IfSome, IsSome, IsNone}
 use Rattle.std.specs.List.{Contains}
+use Rattle.base_words.specs.Lists.{Extends}
 use Rattle.hold_limits.specs.Problem.{Problem}
 use Rattle.hold_limits.specs.Placement.{IsAdmissible}
 use Rattle.hold_reach.specs.Reach.{IsViable}
@@ -71,6 +74,10 @@ pub record AreExactly (Kind : List ℕ → Type 0) (n : ℕ) : Type 0 where
 pub record Pass (t : Problem) (claim : Option (List ℕ)) (cuts : List (List ℕ)) (Kind : List ℕ → Type 0) (n : ℕ) : Type 0 where
   pub expanded : AreExactly (λ p. IsExpanded t cuts p × Kind p) n
   pub no_better : (path : List ℕ) → IsViable t path → IsUncut cuts path → IsComplete t path → Kind path → IsNoBetter t claim path
+
+-- the viable prefixes that begin with no cut pass, and no more than allowed are incomplete
+abbrev pub AllPass : Problem → Option (List ℕ) → List (List ℕ) → ℕ → Type 0
+AllPass t claim cuts allowed = (n : ℕ) × (n ≤ allowed) × Pass t claim cuts (Extends []) n
 
 -- the test comes to the prefix: it is viable and begins with no cut, those before it in path order pass, and n of them, which are
 -- no more than allowed, are incomplete

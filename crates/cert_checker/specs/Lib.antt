@@ -1,4 +1,5 @@
 pub mod Claims
 pub mod Certified
 pub mod FirstReason
+pub mod Evidence
 pub mod Steps

@@ -5,7 +5,8 @@ ghost use Rattle.hold_limits.specs.Problem.{Problem};
 ghost use Rattle.hold_limits.specs.Placement.{IsSound};
 ghost use Rattle.cert_checker.specs.Claims.{IsGoodFor};
 ghost use Rattle.cert_checker.specs.FirstReason.{IsFirstReasonFor};
-ghost use Rattle.cert_checker.specs.Steps.{IsMeasured, EvidenceHolds, EvidenceFails};
+ghost use Rattle.cert_checker.specs.Evidence.{IsMeasured};
+ghost use Rattle.cert_checker.specs.Steps.{EvidenceHolds, EvidenceFails};
 
 use crate::claim::standard_of;
 use crate::cuts::check_cuts;
@@ -13,13 +14,13 @@ use crate::reject::Reject;
 use crate::standard::Evidence;
 use crate::walk::check_prefixes;
 use certificate::Certificate;
-use hold_limits::Task;
+use hold_limits::{Path, Task};
 use hold_partial::{Partial, keep_first};
 
 /// Tests the cuts, and then the prefixes that they leave.
 fn check_evidence(
     partial: &mut Partial<'_>,
-    evidence: &Evidence<'_>,
+    evidence: &Evidence<'_, Path>,
     allowed: u32,
 ) -> Result<(), Reject>
     requires measured { IsMeasured partial.old.task evidence.now.standard }
@@ -34,7 +35,7 @@ fn check_evidence(
 }
 
 /// The same where the loose loads alone break a limit, so that no prefix is viable.
-fn check_unsound(evidence: &Evidence<'_>) -> Result<(), Reject>
+fn check_unsound(evidence: &Evidence<'_, Path>) -> Result<(), Reject>
     ensures holds { IfOk result (λ _. (t : Problem) (allowed : ℕ) → (IsSound t [] → ⊥)
         → EvidenceHolds t evidence.now allowed) }
     ensures fails { IfErr result (λ reason. (t : Problem) (allowed : ℕ) → (IsSound t [] → ⊥)
@@ -48,7 +49,7 @@ fn check_unsound(evidence: &Evidence<'_>) -> Result<(), Reject>
 }
 
 /// Tests the cuts, and then the prefixes that they leave, on a placement of the task.
-fn check_task(task: &Task, evidence: &Evidence<'_>, allowed: u32) -> Result<(), Reject>
+fn check_task(task: &Task, evidence: &Evidence<'_, Path>, allowed: u32) -> Result<(), Reject>
     requires measured { IsMeasured task.now evidence.now.standard }
     ensures holds { IfOk result (λ _. EvidenceHolds task.now evidence.now allowed) }
     ensures fails { IfErr result (EvidenceFails task.now evidence.now allowed) }

@@ -4,7 +4,7 @@ ghost use Rattle.std.specs.Prelude.{◌≡◌, ◌↔◌, ◌≤◌, IfOk, IfErr
 ghost use Rattle.hold_limits.specs.Placement.{IsAtMost};
 ghost use Rattle.certificate.specs.Evidence.{claimed};
 ghost use Rattle.cert_checker.specs.FirstReason.{ClaimHolds};
-ghost use Rattle.cert_checker.specs.Steps.{path_of, standard_key, IsMeasured, IsAtLeast};
+ghost use Rattle.cert_checker.specs.Evidence.{path_of, standard_key, IsMeasured, IsAtLeast};
 ghost use Rattle.cert_checker.specs.declared.reject.Reject.TheVariants.{NotAPlacement};
 
 use crate::reject::Reject;
@@ -24,7 +24,8 @@ pub fn claims_path(claim: &Claim) -> bool
     }
 }
 
-/// The claimed path with its distance, if one is claimed. It is refused where it is not admissible.
+/// The claimed path with its distance in ticks, if one is claimed: the first step of a check. It is refused where it is
+/// not admissible.
 pub fn standard_of<'a>(task: &Task, claim: &'a Claim) -> Result<Option<Standard<'a>>, Reject>
     ensures path { IfOk result (λ standard. path_of standard ≡ claimed claim.now) }
     ensures measured { IfOk result (λ standard. IsMeasured task.now standard) }
@@ -53,8 +54,9 @@ fn is_at_most(standard: &Standard<'_>, bound: u64, prefix: &[u8]) -> bool
     }
 }
 
-/// Whether a path is claimed whose key is at most that of a prefix with this bound.
-pub fn is_at_least(evidence: &Evidence<'_>, bound: u64, prefix: &[u8]) -> bool
+/// Whether a path is claimed whose key is at most that of a prefix with this bound in ticks: what begins with the prefix is
+/// then no better than the claimed path.
+pub fn is_at_least<C>(evidence: &Evidence<'_, C>, bound: u64, prefix: &[u8]) -> bool
     ensures { IsTrue result ↔ IsAtLeast evidence.now.standard (bound, prefix.now) }
 {
     match &evidence.standard {

@@ -4,11 +4,14 @@ ghost use Rattle.std.specs.Prelude.{◌≡◌, ◌↔◌, ◌<◌, ◌≤◌, �
 ghost use Rattle.hold_reach.specs.Reach.{bound};
 ghost use Rattle.certificate.specs.Good.{AreInOrder};
 ghost use Rattle.cert_checker.specs.FirstReason.{CutsHold, IsInOrder, CanBeCut, CutFails};
-ghost use Rattle.cert_checker.specs.Steps.{claim_in, cuts_in, IsMeasured};
+ghost use Rattle.cert_checker.specs.Evidence.{claim_in, cuts_in, IsMeasured};
+ghost use Rattle.cert_checker.specs.Steps.{paths_in};
 
 use crate::claim::is_at_least;
 use crate::reject::Reject;
 use crate::standard::Evidence;
+use certificate::Cut;
+use hold_limits::Path;
 use hold_partial::{Partial, move_to};
 
 /// Whether the later cut comes after the earlier one, and does not begin with it.
@@ -18,21 +21,27 @@ fn are_in_order(earlier: &[u8], later: &[u8]) -> bool
     earlier.cmp(later).is_lt() && !later.starts_with(earlier)
 }
 
-/// Whether the cut at the place comes after those before it, which rise, and begins with none of them.
-fn is_in_order(evidence: &Evidence<'_>, at: usize) -> bool
-    requires within { at < length (cuts_in evidence.now) }
-    requires rising { AllPairs AreInOrder (take at (cuts_in evidence.now)) }
-    ensures { (cut : List ℕ) → slice_get (cuts_in evidence.now) at ≡ Some cut
-        → IsTrue result ↔ IsInOrder (cuts_in evidence.now) at cut }
+/// Whether the cut at the place comes after those before it, which rise, and begins with none of them. Only the cut
+/// before it is looked at.
+pub fn is_in_order<C: Cut>(evidence: &Evidence<'_, C>, at: usize) -> bool
+    requires within { at < length (cuts_in C.prefix_of evidence.now) }
+    requires rising { AllPairs AreInOrder (take at (cuts_in C.prefix_of evidence.now)) }
+    ensures { (cut : List ℕ) → slice_get (cuts_in C.prefix_of evidence.now) at ≡ Some cut
+        → IsTrue result ↔ IsInOrder (cuts_in C.prefix_of evidence.now) at cut }
 {
     let cuts = evidence.cuts;
-    at == 0 || are_in_order(cuts[at - 1].as_slice(), cuts[at].as_slice())
+    at == 0
+        || are_in_order(
+            cuts[at - 1].prefix().as_slice(),
+            cuts[at].prefix().as_slice(),
+        )
 }
 
-/// The bound of a prefix, to which the placement moves, in ticks. None where the prefix is not viable, or not
-/// incomplete.
-fn cut_bound(partial: &mut Partial<'_>, prefix: &[u8]) -> Option<u64>
+/// The bound of a prefix at which a search can turn back, in ticks. The placement moves to it. None where the prefix is
+/// not viable, or not incomplete; where the placement then stands is not told.
+pub fn cut_bound(partial: &mut Partial<'_>, prefix: &[u8]) -> Option<u64>
     ensures task { partial.new.task ≡ partial.old.task }
+    ensures placed { IfSome result (λ _. partial.new.prefix ≡ prefix.now) }
     ensures found { IfSome result (λ b. CanBeCut partial.old.task prefix.now
         × (bound partial.old.task prefix.now ≡ Some b)) }
     ensures none { IfNone result (CanBeCut partial.old.task prefix.now → ⊥) }
@@ -44,14 +53,18 @@ fn cut_bound(partial: &mut Partial<'_>, prefix: &[u8]) -> Option<u64>
 }
 
 /// The fault of the cut at a place, where those before it hold. The placement moves to the cut.
-fn fault_of_cut(partial: &mut Partial<'_>, evidence: &Evidence<'_>, at: usize) -> Option<Reject>
-    requires within { at < length (cuts_in evidence.now) }
+fn fault_of_cut(
+    partial: &mut Partial<'_>,
+    evidence: &Evidence<'_, Path>,
+    at: usize,
+) -> Option<Reject>
+    requires within { at < length (paths_in evidence.now) }
     requires measured { IsMeasured partial.old.task evidence.now.standard }
-    requires before { CutsHold partial.old.task (claim_in evidence.now) (take at (cuts_in evidence.now)) }
+    requires before { CutsHold partial.old.task (claim_in evidence.now) (take at (paths_in evidence.now)) }
     ensures task { partial.new.task ≡ partial.old.task }
     ensures holds { IfNone result (CutsHold partial.old.task (claim_in evidence.now)
-        (take (at + 1) (cuts_in evidence.now))) }
-    ensures fails { IfSome result (CutFails partial.old.task (claim_in evidence.now) (cuts_in evidence.now)) }
+        (take (at + 1) (paths_in evidence.now))) }
+    ensures fails { IfSome result (CutFails partial.old.task (claim_in evidence.now) (paths_in evidence.now)) }
 {
     if !is_in_order(evidence, at) {
         return Some(Reject::CutOrder(at));
@@ -67,11 +80,11 @@ fn fault_of_cut(partial: &mut Partial<'_>, evidence: &Evidence<'_>, at: usize) -
 }
 
 /// Tests the cuts in their order. The placement moves from cut to cut.
-pub fn check_cuts(partial: &mut Partial<'_>, evidence: &Evidence<'_>) -> Result<(), Reject>
+pub fn check_cuts(partial: &mut Partial<'_>, evidence: &Evidence<'_, Path>) -> Result<(), Reject>
     requires measured { IsMeasured partial.old.task evidence.now.standard }
     ensures task { partial.new.task ≡ partial.old.task }
-    ensures hold { IfOk result (λ _. CutsHold partial.old.task (claim_in evidence.now) (cuts_in evidence.now)) }
-    ensures fails { IfErr result (CutFails partial.old.task (claim_in evidence.now) (cuts_in evidence.now)) }
+    ensures hold { IfOk result (λ _. CutsHold partial.old.task (claim_in evidence.now) (paths_in evidence.now)) }
+    ensures fails { IfErr result (CutFails partial.old.task (claim_in evidence.now) (paths_in evidence.now)) }
 {
     for at in 0..evidence.cuts.len() {
         if let Some(fault) = fault_of_cut(partial, evidence, at) {

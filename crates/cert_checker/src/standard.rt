@@ -2,7 +2,8 @@
 
 use hold_limits::Path;
 
-/// The claimed path, and how far its take-off index lies from the ideal band, in ticks.
+/// The claimed path, and how far its take-off index lies from the ideal band, in ticks. `standard_of` makes it of a
+/// claim.
 #[derive(Clone, Copy)]
 pub struct Standard<'a> {
     pub path: &'a Path,
@@ -10,8 +11,8 @@ pub struct Standard<'a> {
 }
 
 /// The claimed path, where there is one, and the cuts.
-#[derive(Clone, Copy)]
-pub struct Evidence<'a> {
+#[derive_where(Clone, Copy)]
+pub struct Evidence<'a, C> {
     pub standard: Option<Standard<'a>>,
-    pub cuts: &'a [Path],
+    pub cuts: &'a [C],
 }

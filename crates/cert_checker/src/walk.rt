@@ -3,15 +3,18 @@
 //! Every beginning of a viable prefix is viable. The cuts are viable and rise, and none begins with another. So the walk
 //! meets the cuts one by one in their order, and knows each when it comes to it.
 
-ghost use Rattle.std.specs.Prelude.{◌≡◌, ◌↔◌, ◌+◌, ◌-◌, ◌^◌, ◌<◌, ◌≤◌, ◌⊎◌, ◌++◌, ◌∷◌, [], IsTrue, IfOk, IfErr, Some, ℕ, false, length, slice_get};
+ghost use Rattle.std.specs.Prelude.{◌≡◌, ◌↔◌, ◌+◌, ◌-◌, ◌^◌, ◌<◌, ◌≤◌, ◌⊎◌, ◌++◌, ◌∷◌, [], IsTrue, IfOk, IfErr, Some, ℕ, All, AllPairs, false, length, slice_get};
 ghost use Rattle.base_words.specs.Lists.{Extends};
-ghost use Rattle.certificate.specs.Good.{IsBefore, IsUncut};
-ghost use Rattle.cert_checker.specs.FirstReason.{CutsHold, Pass, PrefixFails};
-ghost use Rattle.cert_checker.specs.Steps.{claim_in, cuts_in, IsMeasured, AreFirst, Stops, AllPass};
+ghost use Rattle.hold_reach.specs.Reach.{IsViable};
+ghost use Rattle.certificate.specs.Good.{IsBefore, IsUncut, AreInOrder};
+ghost use Rattle.cert_checker.specs.FirstReason.{Pass, PrefixFails, AllPass};
+ghost use Rattle.cert_checker.specs.Evidence.{claim_in, cuts_in, IsMeasured};
+ghost use Rattle.cert_checker.specs.Steps.{AreFirst, Stops};
 
 use crate::claim::is_at_least;
 use crate::reject::Reject;
 use crate::standard::Evidence;
+use certificate::Cut;
 use hold_limits::Path;
 use hold_partial::{Partial, advances};
 
@@ -33,29 +36,34 @@ fn is_longer_by(list: &[u8], front: &[u8], number: u8) -> bool
 }
 
 /// Whether the cut at the place is the front with this number after it.
-fn has_cut_at(evidence: &Evidence<'_>, at: usize, front: &[u8], number: u8) -> bool
-    ensures is { IsTrue result ↔ (slice_get (cuts_in evidence.now) at ≡ Some (front.now ++ number ∷ [])) }
-    ensures inside { IsTrue result → at < length (cuts_in evidence.now) }
+fn has_cut_at<C: Cut>(evidence: &Evidence<'_, C>, at: usize, front: &[u8], number: u8) -> bool
+    ensures is { IsTrue result ↔ (slice_get (cuts_in C.prefix_of evidence.now) at ≡ Some (front.now ++ number ∷ [])) }
+    ensures inside { IsTrue result → at < length (cuts_in C.prefix_of evidence.now) }
     ensures next_fits { IsTrue result → at + 1 < 2 ^ 64 }
 {
-    at < evidence.cuts.len() && is_longer_by(evidence.cuts[at].as_slice(), front, number)
+    at < evidence.cuts.len() && is_longer_by(evidence.cuts[at].prefix().as_slice(), front, number)
 }
 
 /// Passes the prefix and those that begin with it. True if none of them fails; else the placement stays at the first
 /// that does.
-fn pass(partial: &mut Partial<'_>, evidence: &Evidence<'_>, progress: &mut Progress) -> bool
+fn pass<C: Cut>(
+    partial: &mut Partial<'_>,
+    evidence: &Evidence<'_, C>,
+    progress: &mut Progress,
+) -> bool
     requires measured { IsMeasured partial.old.task evidence.now.standard }
-    requires hold { CutsHold partial.old.task (claim_in evidence.now) (cuts_in evidence.now) }
-    requires uncut { IsUncut (cuts_in evidence.now) partial.old.prefix }
-    requires met { AreFirst (cuts_in evidence.now) progress.old.met (λ cut. IsBefore cut partial.old.prefix) }
+    requires rising { AllPairs AreInOrder (cuts_in C.prefix_of evidence.now) }
+    requires viable { All (IsViable partial.old.task) (cuts_in C.prefix_of evidence.now) }
+    requires uncut { IsUncut (cuts_in C.prefix_of evidence.now) partial.old.prefix }
+    requires met { AreFirst (cuts_in C.prefix_of evidence.now) progress.old.met (λ cut. IsBefore cut partial.old.prefix) }
     ensures task { partial.new.task ≡ partial.old.task }
     ensures same { IsTrue result → partial.new ≡ partial.old }
-    ensures met { IsTrue result → AreFirst (cuts_in evidence.now) progress.new.met
+    ensures met { IsTrue result → AreFirst (cuts_in C.prefix_of evidence.now) progress.new.met
         (λ cut. IsBefore cut partial.old.prefix ⊎ Extends partial.old.prefix cut) }
     ensures left { IsTrue result → progress.new.left ≤ progress.old.left }
-    ensures passed { IsTrue result → Pass partial.old.task (claim_in evidence.now) (cuts_in evidence.now)
+    ensures passed { IsTrue result → Pass partial.old.task (claim_in evidence.now) (cuts_in C.prefix_of evidence.now)
         (Extends partial.old.prefix) (progress.old.left - progress.new.left) }
-    ensures stopped { result ≡ false → Stops partial.old.task (claim_in evidence.now) (cuts_in evidence.now)
+    ensures stopped { result ≡ false → Stops partial.old.task (claim_in evidence.now) (cuts_in C.prefix_of evidence.now)
         (Extends partial.old.prefix) progress.old.left partial.new.prefix }
 {
     let task = partial.task();
@@ -83,11 +91,11 @@ fn pass(partial: &mut Partial<'_>, evidence: &Evidence<'_>, progress: &mut Progr
 }
 
 /// Whether the first cut is the empty prefix, with which all begin.
-fn is_all_cut(evidence: &Evidence<'_>) -> bool
-    ensures { IsTrue result ↔ (slice_get (cuts_in evidence.now) 0 ≡ Some []) }
+fn is_all_cut<C: Cut>(evidence: &Evidence<'_, C>) -> bool
+    ensures { IsTrue result ↔ (slice_get (cuts_in C.prefix_of evidence.now) 0 ≡ Some []) }
 {
     match evidence.cuts.first() {
-        Some(cut) => cut.as_slice().is_empty(),
+        Some(cut) => cut.prefix().as_slice().is_empty(),
         None => false,
     }
 }
@@ -104,10 +112,10 @@ fn copy_of(prefix: &[u8]) -> Path
 }
 
 /// How the prefix fails at which a walk has stopped.
-fn fault_at(partial: &Partial<'_>, evidence: &Evidence<'_>) -> Reject
+fn fault_at<C: Cut>(partial: &Partial<'_>, evidence: &Evidence<'_, C>) -> Reject
     ensures { (allowed : ℕ)
-        → Stops partial.now.task (claim_in evidence.now) (cuts_in evidence.now) (Extends []) allowed partial.now.prefix
-        → PrefixFails partial.now.task (claim_in evidence.now) (cuts_in evidence.now) allowed result }
+        → Stops partial.now.task (claim_in evidence.now) (cuts_in C.prefix_of evidence.now) (Extends []) allowed partial.now.prefix
+        → PrefixFails partial.now.task (claim_in evidence.now) (cuts_in C.prefix_of evidence.now) allowed result }
 {
     let prefix = partial.prefix();
     if prefix.len() < partial.task().items().len() {
@@ -120,18 +128,20 @@ fn fault_at(partial: &Partial<'_>, evidence: &Evidence<'_>) -> Reject
     }
 }
 
-/// Tests the viable prefixes that begin with no cut, in path order. At most `allowed` of them may be incomplete. The
-/// cuts hold.
-pub fn check_prefixes(
+/// Tests the viable prefixes that begin with no cut, in path order. At most `allowed` of them may be incomplete. The walk
+/// begins at the empty prefix, so a placement that was moved goes back there first, and it leaves the placement where it
+/// ends. It takes no memory.
+pub fn check_prefixes<C: Cut>(
     partial: &mut Partial<'_>,
-    evidence: &Evidence<'_>,
+    evidence: &Evidence<'_, C>,
     allowed: u32,
 ) -> Result<(), Reject>
     requires start { partial.old.prefix ≡ [] }
     requires measured { IsMeasured partial.old.task evidence.now.standard }
-    requires hold { CutsHold partial.old.task (claim_in evidence.now) (cuts_in evidence.now) }
-    ensures passed { IfOk result (λ _. AllPass partial.old.task (claim_in evidence.now) (cuts_in evidence.now) allowed) }
-    ensures fails { IfErr result (PrefixFails partial.old.task (claim_in evidence.now) (cuts_in evidence.now) allowed) }
+    requires rising { AllPairs AreInOrder (cuts_in C.prefix_of evidence.now) }
+    requires viable { All (IsViable partial.old.task) (cuts_in C.prefix_of evidence.now) }
+    ensures passed { IfOk result (λ _. AllPass partial.old.task (claim_in evidence.now) (cuts_in C.prefix_of evidence.now) allowed) }
+    ensures fails { IfErr result (PrefixFails partial.old.task (claim_in evidence.now) (cuts_in C.prefix_of evidence.now) allowed) }
 {
     if is_all_cut(evidence) {
         return Ok(());

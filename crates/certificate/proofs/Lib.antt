@@ -1,3 +1,5 @@
+pub mod WideNumbers
+pub mod RunsThatStop
 pub mod PathLemmas
 pub mod LineLemmas
 pub mod StartLemmas

@@ -51,17 +51,23 @@ pub record IsExpanded (t : Problem) (cuts : List (List ℕ)) (prefix : List ℕ)
 abbrev pub AreAtMost : (List ℕ → Type 0) → ℕ → Type 0
 AreAtMost Kind n = (lists : List (List ℕ)) → AllPairs (λ p q. p ≢ q) lists → All Kind lists → length lists ≤ n
 
--- a certificate with this claim, these cuts and this number is good
-pub record IsGood (t : Problem) (claim : Option (List ℕ)) (cuts : List (List ℕ)) (expanded : ℕ) : Type 0 where
+-- the claimed path is admissible, the cuts are prefixes at which a search can turn back, and what they leave is no better than the
+-- claimed path, and little
+pub record Covers (t : Problem) (claim : Option (List ℕ)) (cuts : List (List ℕ)) (expanded : ℕ) : Type 0 where
   -- the claimed path is admissible
   pub admissible : IfSome claim (IsAdmissible t)
   -- the cuts rise, and none begins with another
   pub rising : AllPairs AreInOrder cuts
-  -- each is viable and incomplete, and nothing better begins with it
+  -- each is viable and incomplete
   pub viable : All (IsViable t) cuts
   pub incomplete : All (IsIncomplete t) cuts
-  pub idle : All (HoldsNothingBetter t claim) cuts
   -- no rising admissible path that begins with no cut is better than the claimed one
   pub covered : (path : List ℕ) → IsAdmissible t path → IsRising t path → IsUncut cuts path → IsNoBetter t claim path
   -- few viable prefixes are left to look at
   pub few : AreAtMost (IsExpanded t cuts) expanded
+
+-- a certificate with this claim, these cuts and this number is good
+pub record IsGood (t : Problem) (claim : Option (List ℕ)) (cuts : List (List ℕ)) (expanded : ℕ) : Type 0 where
+  pub covers : Covers t claim cuts expanded
+  -- nothing better than the claimed path begins with a cut
+  pub idle : All (HoldsNothingBetter t claim) cuts

@@ -15,6 +15,7 @@
 //! before `CERTIFICATE 1` are skipped, so that a whole answer to a task is the text of a certificate.
 #![tactic(auto)]
 
+mod cut;
 mod fault;
 mod laws;
 mod line_readers;
@@ -22,13 +23,16 @@ mod line_writers;
 mod name_table;
 mod parts;
 mod reader;
+mod wide_numbers;
 mod writer;
 
+pub use cut::Cut;
 pub use fault::CertFault;
 pub use laws::reading_laws;
-pub use line_readers::next_claim;
-pub use line_writers::{push_claim, push_path};
+pub use line_readers::{next_claim, read_path};
+pub use line_writers::{push_claim, push_expanded, push_path};
 pub use name_table::NameTable;
 pub use parts::{Certificate, Claim, Cuts};
 pub use reader::{after_start, read_certificate};
+pub use wide_numbers::read_wide_number;
 pub use writer::{push_certificate, write_certificate};

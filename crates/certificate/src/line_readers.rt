@@ -46,8 +46,9 @@ fn named_path(names: &NameTable<'_>, words: &[u8]) -> Option<Path>
     Some(path)
 }
 
-/// The positions that a line names after this word.
-fn read_path(names: &NameTable<'_>, word: &[u8], line: &[u8]) -> Option<Path>
+/// The positions that a line names after this word. None where it has another word, a name of no position, or over 60
+/// names.
+pub fn read_path(names: &NameTable<'_>, word: &[u8], line: &[u8]) -> Option<Path>
     requires word { Avoids 32 word.now }
     ensures found { IfSome result (λ path. IsSpelledPath names.now.positions.now path.items
         × (line.now ≡ path_line word.now names.now.positions.now path.items)) }

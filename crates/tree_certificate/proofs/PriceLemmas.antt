@@ -1,7 +1,6 @@
 -- runs of prices, and lines of prices, are read in one way only
 use Rattle.std.proofs.Common.{◌≡◌, ◌≢◌, ℕ, ◌<◌, ◌++◌, ◌∷◌, List, [], get_or, refl, sym, ◌∙◌, ap, subst, arith, codes, lit<}
 use Rattle.std.proofs.lemmas.List.{append_assoc, append-nil, append_cancel_left}
-use Rattle.std.proofs.lemmas.List.Elements.{All-head, All-tail}
 use Rattle.mass_units.specs.Spelling.{number_text, IsNumber}
 use Rattle.mass_units.proofs.SpellingLemmas.{number_text-avoids}
 use Rattle.hold_parts.specs.declared.parts.Position.{Position}
@@ -15,6 +14,7 @@ use Rattle.text_lines.proofs.Rests.{IsLineKind}
 use Rattle.text_lines.proofs.RunLemmas.{run_text-cut}
 use Rattle.text_lines.proofs.WordLemmas.{avoids-append, plain_word, letters_avoid}
 use Rattle.certificate.proofs.PathLemmas.{AreNames}
+use Rattle.certificate.proofs.RunsThatStop as runs_that_stop
 use Rattle.tree_certificate.specs.declared.parts.End.{End}
 use Rattle.tree_certificate.specs.declared.parts.End.TheVariants.{Low, High}
 use Rattle.tree_certificate.specs.declared.parts.Price.{Price}
@@ -67,21 +67,7 @@ end_stops word P = λ p rest s cut e. absurd (cc)
 pub runs_once : (word : ℕ → List ℕ) (P : ℕ → Type 0) → AreWords word P → (xs ys : List Price) (rest other : List ℕ) → AreSpelledPrices P xs → AreSpelledPrices P ys
     → IsCutAt 32 rest → IsCutAt 32 other → HasNoPrice word P rest → HasNoPrice word P other
     → run_text (price_text word) xs ++ rest ≡ run_text (price_text word) ys ++ other → (xs ≡ ys) × (rest ≡ other)
-runs_once word P words [] [] rest other p q cut cut' stop stop' e = (refl, e)
-runs_once word P words [] (y ∷ ys) rest other p q cut cut' stop stop' e =
-    let read = (prices word P words).read in
-    absurd (stop y (run_text (price_text word) ys ++ other) (All-head (IsSpelledPrice P) y ys q) (run_text-cut (price_text word) (IsSpelledPrice P) read ys other cut') (e ∙ append_assoc (price_text word y) (run_text (price_text word) ys) other))
-runs_once word P words (x ∷ xs) [] rest other p q cut cut' stop stop' e =
-    let read = (prices word P words).read in
-    absurd (stop' x (run_text (price_text word) xs ++ rest) (All-head (IsSpelledPrice P) x xs p) (run_text-cut (price_text word) (IsSpelledPrice P) read xs rest cut) (sym e ∙ append_assoc (price_text word x) (run_text (price_text word) xs) rest))
-runs_once word P words (x ∷ xs) (y ∷ ys) rest other p q cut cut' stop stop' e =
-    let read = (prices word P words).read in
-    let text = run_text (price_text word) in
-    let whole : price_text word x ++ (text xs ++ rest) ≡ price_text word y ++ (text ys ++ other) = sym (append_assoc (price_text word x) (text xs) rest) ∙ e ∙ append_assoc (price_text word y) (text ys) other in
-    let one = read.once x y (text xs ++ rest) (text ys ++ other) (All-head (IsSpelledPrice P) x xs p) (All-head (IsSpelledPrice P) y ys q)
-    (run_text-cut (price_text word) (IsSpelledPrice P) read xs rest cut) (run_text-cut (price_text word) (IsSpelledPrice P) read ys other cut') whole in
-    let again = runs_once word P words xs ys rest other (All-tail (IsSpelledPrice P) x xs p) (All-tail (IsSpelledPrice P) y ys q) cut cut' stop stop' one.1 in
-    (λ i. one.0 i ∷ again.0 i, again.1)
+runs_once word P words = runs_that_stop.runs_once (price_text word) (IsSpelledPrice P) (prices word P words).read
 
 -- what was read of words is what they begin with
 pub prices_once : (word : ℕ → List ℕ) (P : ℕ → Type 0) → AreWords word P → (words : List ℕ) (got xs : List Price) (rest other : List ℕ) → ArePrices word P words got rest → AreSpelledPrices P xs → IsCutAt 32 other → HasNoPrice word P other

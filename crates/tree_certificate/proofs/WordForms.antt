@@ -1,5 +1,5 @@
 -- words of what prices are of
-use Rattle.std.proofs.Common.{◌≡◌, ◌≢◌, ⊎_elim, ℕ, ◌-◌, ◌^◌, ◌<◌, ◌≤◌, min, Option, None, Some, IfNone, ◌++◌, ◌∷◌, List, sym, ◌∙◌, ap, arith, All, lit<}
+use Rattle.std.proofs.Common.{◌≡◌, ◌≢◌, ⊎_elim, ℕ, Option, None, Some, IfNone, ◌++◌, ◌∷◌, List, sym, ◌∙◌, arith, All, lit<}
 use Rattle.std.proofs.lemmas.List.{append_cancel_left}
 use Rattle.std.proofs.lemmas.Option.{none-some}
 use Rattle.std.proofs.lemmas.List.Elements.{All-head}
@@ -7,7 +7,7 @@ use Rattle.std.proofs.lemmas.Str.Parse.{digit_from_value}
 use Rattle.std.specs.Int.{IsInRange}
 use Rattle.std.specs.Str.Parse.{AllDigits}
 use Rattle.mass_units.specs.Spelling.{number_text, IsNumber}
-use Rattle.mass_units.proofs.SpellingLemmas.{number_text-avoids, number_text-injective, AllDigits-number_text}
+use Rattle.mass_units.proofs.SpellingLemmas.{number_text-avoids, AllDigits-number_text}
 use Rattle.base_words.specs.Letters.{IsCapital, IsDigit, IsCapitalOrDigit}
 use Rattle.hold_parts.specs.declared.parts.Position.{Position}
 use Rattle.hold_limits.specs.Layout.{name_at}
@@ -61,13 +61,3 @@ none_unless_number text (Some m) read = tt
 pub none_unless_numbered : (word line rest : List ℕ) (r : Option ℕ) → line ≡ word ++ rest → ((n : ℕ) → IsNumber n → rest ≡ number_text n → r ≡ Some n) → IfNone r ((n : ℕ) → IsNumber n → line ≢ word ++ number_text n)
 none_unless_numbered word line rest None e read = λ n right g. none-some n (read n right (append_cancel_left word rest (number_text n) (sym e ∙ g)))
 none_unless_numbered word line rest (Some m) e read = tt
-
--- what was read of a text, which stands for a greatest number where the text's is greater still
-abbrev pub IsWhole : List ℕ → ℕ → Type 0
-IsWhole text value = (m : ℕ) × (text ≡ number_text m) × (value ≡ min m (2 ^ 128 - 1))
-
-pub price_read : (text : List ℕ) (value : ℕ) → IsWhole text value → value < 2 ^ 64 → text ≡ number_text value
-price_read text value read small = let same : read.0 ≡ value = omega arith in read.1 ∙ ap number_text same
-
-pub no_price_read : (text : List ℕ) (value : ℕ) → IsWhole text value → 2 ^ 64 ≤ value → (n : ℕ) → n < 2 ^ 64 → text ≢ number_text n
-no_price_read text value read large n small e = let same : read.0 ≡ n = number_text-injective read.0 n (sym read.1 ∙ e) in absurd (omega arith)

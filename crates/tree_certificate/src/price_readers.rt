@@ -1,8 +1,6 @@
 //! Readers of prices.
 
-ghost use Rattle.std.specs.Prelude.{◌≡◌, ◌≢◌, ◌<◌, ◌-◌, ◌^◌, ℕ, List, ◌++◌, min, All, IfOk, IfSome, IfNone};
-ghost use Rattle.std.specs.Str.Parse.{AllDigits, digits_value};
-ghost use Rattle.mass_units.specs.Spelling.{number_text};
+ghost use Rattle.std.specs.Prelude.{◌≡◌, ◌≢◌, ℕ, List, ◌++◌, All, IfOk, IfSome, IfNone};
 ghost use Rattle.hold_parts.specs.Spellings.{IsName};
 ghost use Rattle.hold_parts.specs.declared.parts.Position.{Position};
 ghost use Rattle.hold_limits.specs.Layout.{name_at};
@@ -15,13 +13,10 @@ ghost use Rattle.tree_certificate.specs.declared.parts.End.{End};
 
 use crate::parts::{End, Price, PriceList};
 use base_words::NoMemory;
-use certificate::NameTable;
-use mass_units::{has_plain_front, read_number};
+use certificate::{NameTable, read_wide_number};
+use mass_units::read_number;
 use std::alloc::Global;
 use text_lines::{after_prefix, cut, split_once};
-
-/// The greatest number that a text gives as a price.
-const GREATEST_PRICE: u128 = 18_446_744_073_709_551_615;
 
 /// What prices are of.
 #[derive(Clone, Copy)]
@@ -51,47 +46,6 @@ impl Holders<'_, '_> {
     }
 }
 
-/// The number that the digits write, or `u128::MAX` where it is greater. None where a byte is no digit.
-fn read_digits(text: &[u8]) -> Option<u128>
-    ensures some { IfSome result
-        (λ value. AllDigits 10 text.now × (value ≡ min (digits_value 10 text.now) (2 ^ 128 - 1))) }
-    ensures none { IfNone result (AllDigits 10 text.now → ⊥) }
-{
-    let mut value = 0u128;
-    for byte in text {
-        if !byte.is_ascii_digit() {
-            return None;
-        }
-        value = value
-            .saturating_mul(10)
-            .saturating_add(u128::from(*byte - b'0'));
-    }
-    Some(value)
-}
-
-/// The number of any size that the text spells, or `u128::MAX` where it is greater.
-fn read_whole(text: &[u8]) -> Option<u128>
-    ensures some { IfSome result
-        (λ value. (n : ℕ) × (text.now ≡ number_text n) × (value ≡ min n (2 ^ 128 - 1))) }
-    ensures none { IfNone result ((n : ℕ) → text.now ≢ number_text n) }
-{
-    if !has_plain_front(text) {
-        return None;
-    }
-    read_digits(text)
-}
-
-/// The number of at most 64 bits that the text spells.
-fn read_price(text: &[u8]) -> Option<u64>
-    ensures some { IfSome result (λ n. text.now ≡ number_text n) }
-    ensures none { IfNone result ((n : ℕ) → n < 2 ^ 64 → text.now ≢ number_text n) }
-{
-    match read_whole(text) {
-        Some(n) if n <= GREATEST_PRICE => Some(n as u64),
-        _ => None,
-    }
-}
-
 /// The first price of a run, and the words after it.
 fn next_price<'w>(holders: Holders<'_, '_>, words: &'w [u8]) -> Option<(Price, &'w [u8])>
     ensures found { IfSome result (λ x. IsSpelledPrice (IsHolder holders.entry) x.0
@@ -101,7 +55,7 @@ fn next_price<'w>(holders: Holders<'_, '_>, words: &'w [u8]) -> Option<(Price, &
     let (holder, after) = split_once(b' ', after_prefix(b" ", words)?)?;
     let of = holders.number_of(holder)?;
     let (price, rest) = cut(b' ', after);
-    let price = read_price(price)?;
+    let price = read_wide_number(price)?;
     Some((Price { of, price }, rest))
 }
 

@@ -4,7 +4,8 @@ use Rattle.std.proofs.lemmas.Bool.Decides.{Decides-eqb}
 use Rattle.std.proofs.lemmas.List.{length-map}
 use Rattle.std.proofs.Common.{ℕ}
 use Rattle.arrayvec.specs.ArrayVec.{ArrayVec}
-use Rattle.cert_checker.specs.Steps.{claim_in, cuts_in}
+use Rattle.cert_checker.specs.Evidence.{claim_in}
+use Rattle.cert_checker.specs.Steps.{paths_in}
 use Rattle.cert_checker.proofs.CutLemmas.{unsound-holds, unsound-fails}
 use Rattle.cert_checker.proofs.checks.check_unsound.Goals as goal
 
@@ -12,10 +13,10 @@ pub returns-then-is_empty-clause-holds : goal.returns-then-is_empty-clause-holds
 returns-then-is_empty-clause-holds c = λ t allowed unsound.
     let evidence = c.args.evidence.now in
     let empty : length evidence.cuts.now ≡ 0 = (Decides-eqb (length evidence.cuts.now) 0).0 (sym c.is_empty.ensures ∙ c.if-is_empty.true) in
-    unsound-holds t (claim_in evidence) (cuts_in evidence) allowed unsound (length-map evidence.cuts.now (λ (path : ArrayVec ℕ). path.items) ∙ empty)
+    unsound-holds t (claim_in evidence) (paths_in evidence) allowed unsound (length-map evidence.cuts.now (λ (path : ArrayVec ℕ). path.items) ∙ empty)
 
 pub returns-else-is_empty-clause-fails : goal.returns-else-is_empty-clause-fails
 returns-else-is_empty-clause-fails c = λ t allowed unsound.
     let evidence = c.args.evidence.now in
     let some : length evidence.cuts.now ≡ 0 → ⊥ = λ none. false≢true (sym c.if-is_empty.false ∙ c.is_empty.ensures ∙ (Decides-eqb (length evidence.cuts.now) 0).1 none) in
-    inl (unsound-fails t (claim_in evidence) (cuts_in evidence) unsound (omega (arith, some, length-map evidence.cuts.now (λ (path : ArrayVec ℕ). path.items))))
+    inl (unsound-fails t (claim_in evidence) (paths_in evidence) unsound (omega (arith, some, length-map evidence.cuts.now (λ (path : ArrayVec ℕ). path.items))))

@@ -2,7 +2,8 @@ use Rattle.std.proofs.lemmas.Result.{IfOk-weaker, IfErr-weaker}
 use Rattle.certificate.specs.Evidence.{paths_of}
 use Rattle.cert_checker.specs.Claims.{IsGoodFor}
 use Rattle.cert_checker.specs.FirstReason.{IsFirstReasonFor}
-use Rattle.cert_checker.specs.Steps.{path_of, EvidenceHolds, EvidenceFails}
+use Rattle.cert_checker.specs.Evidence.{path_of}
+use Rattle.cert_checker.specs.Steps.{EvidenceHolds, EvidenceFails}
 use Rattle.cert_checker.proofs.ReasonLemmas.{good_for-from, reason_for-from}
 use Rattle.cert_checker.proofs.checks.first_reason.Goals as goal
 

@@ -1,6 +1,6 @@
 use Rattle.std.proofs.Common.{refl, ◌≡◌, ◌⊎◌, inl, inr, ℕ, ◌+◌, ◌-◌, ◌≤◌, List, ◌∷◌, [], ◌++◌, Some, length, sym, ap, ◌∙◌, subst, arith, length-append}
 use Rattle.std.proofs.lemmas.Bool.{false≢true}
-use Rattle.std.specs.Prelude.{slice_get}
+use Rattle.std.specs.Prelude.{All, slice_get}
 use Rattle.base_words.specs.Lists.{Extends}
 use Rattle.hold_parts.specs.declared.parts.Item.{Item}
 use Rattle.hold_limits.specs.Layout.{Layout}
@@ -8,11 +8,12 @@ use Rattle.hold_limits.specs.Problem.{Problem}
 use Rattle.hold_partial.specs.Placing.{Placing}
 use Rattle.hold_reach.specs.Reach.{IsViable}
 use Rattle.certificate.specs.Good.{IsBefore, IsUncut}
-use Rattle.cert_checker.specs.FirstReason.{CutsHold, Pass}
-use Rattle.cert_checker.specs.Steps.{IsMeasured, IsAtLeast, AreFirst, Stops, claim_in, cuts_in}
+use Rattle.cert_checker.specs.FirstReason.{Pass}
+use Rattle.cert_checker.specs.Evidence.{IsMeasured, IsAtLeast, claim_in, cuts_in}
+use Rattle.cert_checker.specs.Steps.{AreFirst, Stops}
 use Rattle.cert_checker.proofs.StandardLemmas.{at_least-no_better}
 use Rattle.cert_checker.proofs.ViableFronts.{IsViable-extends}
-use Rattle.cert_checker.proofs.CutOrder.{met-none, met-first, met-last, uncut-next}
+use Rattle.cert_checker.proofs.CutOrder.{met-none, met-complete, met-first, met-last, uncut-next}
 use Rattle.cert_checker.proofs.WalkLemmas.{Walked, Walked-cut, Walked-next, Walked-passed, IsVisited, advanced, undone, Pass-unviable, Pass-complete, Pass-first, Pass-last, Stops-here, Stops-next}
 use Rattle.cert_checker.proofs.walk.+pass.Goals.{then-has_cut_at, else-has_cut_at+then-advances+else-not-pass, else-has_cut_at+else-advances}
 use Rattle.cert_checker.proofs.walk.+pass.Goals as goal
@@ -22,29 +23,35 @@ item_count : {items : List Item} {now task : Problem} → items ≡ now.items �
 item_count is same = ap length is ∙ ap (λ (p : Problem). length p.items) same
 
 pub returns-in_default-clause-met : goal.returns-in_default-clause-met
-returns-in_default-clause-met t c = λ _.
+returns-in_default-clause-met g t c = λ _.
     let task = c.args.partial.now.task in
     let front = c.args.partial.now.prefix in
-    met-none (cuts_in c.args.evidence.now) c.args.progress.now.met front (IsViable task) c.requires.hold.viable
+    met-none (cuts_in g.C.Cut.prefix_of c.args.evidence.now) c.args.progress.now.met front (IsViable task) c.requires.viable
     (λ cut can extends. c.in_default.ensures.none (IsViable-extends task front cut extends can))
     c.requires.met
 
 pub returns-in_default-clause-passed : goal.returns-in_default-clause-passed
-returns-in_default-clause-passed t c = λ _.
+returns-in_default-clause-passed g t c = λ _.
     let task = c.args.partial.now.task in
     let front = c.args.partial.now.prefix in
     let claim = claim_in c.args.evidence.now in
-    let cuts = cuts_in c.args.evidence.now in
+    let cuts = cuts_in g.C.Cut.prefix_of c.args.evidence.now in
     let none : 0 ≡ c.args.progress.now.left - c.args.progress.now.left = omega arith in
     subst (Pass task claim cuts (Extends front)) none (Pass-unviable task claim cuts front c.in_default.ensures.none)
 
+pub returns-then-prefix-items-clause-met : goal.returns-then-prefix-items-clause-met
+returns-then-prefix-items-clause-met g t c = λ _.
+    let complete = sym (ap length c.prefix.ensures.value) ∙ c.if-prefix-items.true ∙ item_count c.items.ensures.value c.task-task.ensures.value in
+    met-complete c.args.partial.now.task (cuts_in g.C.Cut.prefix_of c.args.evidence.now) c.args.progress.now.met c.args.partial.now.prefix
+    complete c.requires.viable c.requires.uncut c.requires.met
+
 pub returns-then-prefix-items-clause-passed : goal.returns-then-prefix-items-clause-passed
-returns-then-prefix-items-clause-passed t c = λ yes.
+returns-then-prefix-items-clause-passed g t c = λ yes.
     let task = c.args.partial.now.task in
     let front = c.args.partial.now.prefix in
     let standard = c.args.evidence.now.standard in
     let claim = claim_in c.args.evidence.now in
-    let cuts = cuts_in c.args.evidence.now in
+    let cuts = cuts_in g.C.Cut.prefix_of c.args.evidence.now in
     let complete = sym (ap length c.prefix.ensures.value) ∙ c.if-prefix-items.true ∙ item_count c.items.ensures.value c.task-task.ensures.value in
     let least : IsAtLeast standard (c.in-Some.bound, front) = subst (λ p. IsAtLeast standard (c.in-Some.bound, p)) c.prefix-then-prefix-items.ensures.value (c.is_at_least.ensures.0 yes) in
     let both = at_least-no_better task standard front c.in-Some.bound c.requires.measured complete c.in-Some.ensures.found.1 in
@@ -52,13 +59,13 @@ returns-then-prefix-items-clause-passed t c = λ yes.
     subst (Pass task claim cuts (Extends front)) none (Pass-complete task claim cuts front complete (both.0 least))
 
 pub returns-then-prefix-items-clause-stopped : goal.returns-then-prefix-items-clause-stopped
-returns-then-prefix-items-clause-stopped t c = λ no.
+returns-then-prefix-items-clause-stopped g t c = λ no.
     let task = c.args.partial.now.task in
     let front = c.args.partial.now.prefix in
     let standard = c.args.evidence.now.standard in
     let complete = sym (ap length c.prefix.ensures.value) ∙ c.if-prefix-items.true ∙ item_count c.items.ensures.value c.task-task.ensures.value in
     let both = at_least-no_better task standard front c.in-Some.bound c.requires.measured complete c.in-Some.ensures.found.1 in
-    Stops-here task (claim_in c.args.evidence.now) (cuts_in c.args.evidence.now) front c.args.progress.now.left c.in-Some.ensures.found.0 c.requires.uncut
+    Stops-here task (claim_in c.args.evidence.now) (cuts_in g.C.Cut.prefix_of c.args.evidence.now) front c.args.progress.now.left c.in-Some.ensures.found.0 c.requires.uncut
     (inr (
       complete,
       λ no_better.
@@ -67,20 +74,20 @@ returns-then-prefix-items-clause-stopped t c = λ no.
     ))
 
 pub returns-then-progress-eq0-clause-stopped : goal.returns-then-progress-eq0-clause-stopped
-returns-then-progress-eq0-clause-stopped t c = λ _.
+returns-then-progress-eq0-clause-stopped g t c = λ _.
     let task = c.args.partial.now.task in
     let front = c.args.partial.now.prefix in
     let items = item_count c.items.ensures.value c.task-task.ensures.value in
     let not : length front ≡ length task.items → ⊥ = λ complete. c.if-prefix-items.false (ap length c.prefix.ensures.value ∙ complete ∙ sym items) in
-    Stops-here task (claim_in c.args.evidence.now) (cuts_in c.args.evidence.now) front c.args.progress.now.left c.in-Some.ensures.found.0 c.requires.uncut
+    Stops-here task (claim_in c.args.evidence.now) (cuts_in g.C.Cut.prefix_of c.args.evidence.now) front c.args.progress.now.left c.in-Some.ensures.found.0 c.requires.uncut
     (inl (omega (arith, not, c.in-Some.ensures.found.0.sound.short), sym c.if-progress-eq0.true))
 
 pub loop-number-init : goal.loop-number-init
-loop-number-init t c =
+loop-number-init g t c =
     let task = c.args.partial.now.task in
     let front = c.args.partial.now.prefix in
     let claim = claim_in c.args.evidence.now in
-    let cuts = cuts_in c.args.evidence.now in
+    let cuts = cuts_in g.C.Cut.prefix_of c.args.evidence.now in
     let items = item_count c.items.ensures.value c.task-task.ensures.value in
     let not : length front ≡ length task.items → ⊥ = λ complete. c.if-prefix-items.false (ap length c.prefix.ensures.value ∙ complete ∙ sym items) in
     let one : 1 ≡ c.args.progress.now.left - (c.args.progress.now.left - 1) = omega (arith, c.if-progress-eq0.false) in
@@ -99,16 +106,16 @@ seam : (at now : Placing) (prefix : List ℕ) → prefix ≡ at.prefix → at �
 seam at now prefix is same = is ∙ ap (λ (p : Placing). p.prefix) same
 
 pub overflow_add-progress : goal.overflow_add-progress
-overflow_add-progress t c =
+overflow_add-progress g t c =
     let below = c.has_cut_at.ensures.next_fits c.if-has_cut_at.true in
     omega (arith, below)
 
 pub pass-requires : goal.pass-requires
-pass-requires t c =
+pass-requires g t c =
     let front = c.args.partial.now.prefix in
     let number = c.loop-number.number in
     let evidence = c.args.evidence.now in
-    let cuts = cuts_in evidence in
+    let cuts = cuts_in g.C.Cut.prefix_of evidence in
     let met = c.loop-number.progress.met in
     let walked = c.loop-number.invariant.walked in
     let placed = advanced c.loop-number.partial c.args.partial.now c.advances.new.partial number c.loop-number.invariant.same (c.advances.ensures.placed c.if-advances.true) in
@@ -119,27 +126,34 @@ pass-requires t c =
     let looked : c.prefix-in-loop-number.result.now ≡ front = seam c.loop-number.partial c.args.partial.now c.prefix-in-loop-number.result.now c.prefix-in-loop-number.ensures.value c.loop-number.invariant.same in
     let no_cut : slice_get cuts met ≡ Some (front ++ number ∷ []) → ⊥ = λ is.
     false≢true (sym c.if-has_cut_at.false ∙ c.has_cut_at.ensures.is.1 (subst (λ p. slice_get cuts met ≡ Some (p ++ number ∷ [])) (sym looked) is)) in
-    let uncut = uncut-next cuts met front number c.requires.hold.rising c.requires.uncut walked.met no_cut in (
+    let uncut = uncut-next cuts met front number c.requires.rising c.requires.uncut walked.met no_cut in
+    λ κs lives. (
       omega (arith, c.decreases, more, same, incomplete, length-append front (number ∷ []), c.in-Some.ensures.found.0.sound.short),
       (
-        subst (λ (p : Placing). IsMeasured p.task evidence.standard) (sym placed) c.requires.measured,
+        lives,
         (
-          subst (λ (p : Placing). CutsHold p.task (claim_in evidence) cuts) (sym placed) c.requires.hold,
+          subst (λ (p : Placing). IsMeasured p.task evidence.standard) (sym placed) c.requires.measured,
           (
-            subst (λ (p : Placing). IsUncut cuts p.prefix) (sym placed) uncut,
-            subst (λ (p : Placing). AreFirst cuts met (λ cut. IsBefore cut p.prefix)) (sym placed) walked.met,
+            c.requires.rising,
+            (
+              subst (λ (p : Placing). All (IsViable p.task) cuts) (sym placed) c.requires.viable,
+              (
+                subst (λ (p : Placing). IsUncut cuts p.prefix) (sym placed) uncut,
+                subst (λ (p : Placing). AreFirst cuts met (λ cut. IsBefore cut p.prefix)) (sym placed) walked.met,
+              ),
+            ),
           ),
         ),
       ),
     )
 
 pub returns-then-not-pass-clause-stopped : goal.returns-then-not-pass-clause-stopped
-returns-then-not-pass-clause-stopped t c = λ _.
+returns-then-not-pass-clause-stopped g t c = λ _.
     let task = c.args.partial.now.task in
     let front = c.args.partial.now.prefix in
     let number = c.loop-number.number in
     let claim = claim_in c.args.evidence.now in
-    let cuts = cuts_in c.args.evidence.now in
+    let cuts = cuts_in g.C.Cut.prefix_of c.args.evidence.now in
     let before = c.args.progress.now.left in
     let left = c.loop-number.progress.left in
     let walked = c.loop-number.invariant.walked in
@@ -149,7 +163,7 @@ returns-then-not-pass-clause-stopped t c = λ _.
     Stops-next task claim cuts front number (before - left) left before c.pass.new.partial.prefix (omega (arith, walked.left)) walked.passed stops
 
 pub undo-requires : goal.undo-requires
-undo-requires t c =
+undo-requires g t c =
     let front = c.args.partial.now.prefix in
     let number = c.loop-number.number in
     let placed = advanced c.loop-number.partial c.args.partial.now c.advances.new.partial number c.loop-number.invariant.same (c.advances.ensures.placed c.if-advances.true) in
@@ -157,12 +171,12 @@ undo-requires t c =
     omega (arith, back, length-append front (number ∷ []))
 
 pub loop-number-preserved : goal.loop-number-preserved
-loop-number-preserved t c =
+loop-number-preserved g t c =
     let task = c.args.partial.now.task in
     let front = c.args.partial.now.prefix in
     let number = c.loop-number.number in
     let claim = claim_in c.args.evidence.now in
-    let cuts = cuts_in c.args.evidence.now in
+    let cuts = cuts_in g.C.Cut.prefix_of c.args.evidence.now in
     let before = c.args.progress.now in
     let mid = c.loop-number.progress in
     let walked = c.loop-number.invariant.walked in
@@ -174,7 +188,7 @@ loop-number-preserved t c =
           record {
             same = w.partial-is ∙ c.loop-number.invariant.same;
             walked = subst (λ now. Walked task claim cuts front (number + 1) before now) (sym w.progress-is)
-                (Walked-cut task claim cuts front number before mid c.requires.hold.rising (c.has_cut_at.ensures.inside w.if-has_cut_at.true) stands walked);
+                (Walked-cut task claim cuts front number before mid c.requires.rising (c.has_cut_at.ensures.inside w.if-has_cut_at.true) stands walked);
           }
       | else-has_cut_at+then-advances+else-not-pass w ↦
           let placed = advanced c.loop-number.partial c.args.partial.now w.advances.new.partial number c.loop-number.invariant.same (w.advances.ensures.placed w.if-advances.true) in
@@ -186,7 +200,7 @@ loop-number-preserved t c =
           record {
             same = w.partial-is ∙ undone c.args.partial.now w.undo.new.self number w.undo.ensures.0 (sym placed ∙ sym (w.pass.ensures.same w.if-not-pass.false) ∙ w.undo.ensures.1);
             walked = subst (λ now. Walked task claim cuts front (number + 1) before now) (sym w.progress-is)
-                (Walked-next task claim cuts front number before mid now c.requires.hold.viable met (w.pass.ensures.left w.if-not-pass.false) passed walked);
+                (Walked-next task claim cuts front number before mid now c.requires.viable met (w.pass.ensures.left w.if-not-pass.false) passed walked);
           }
       | else-has_cut_at+else-advances w ↦
           let unviable : IsViable task (front ++ number ∷ []) → ⊥ =
@@ -194,22 +208,22 @@ loop-number-preserved t c =
           record {
             same = w.partial-is ∙ w.advances.ensures.same w.if-advances.false ∙ c.loop-number.invariant.same;
             walked = subst (λ now. Walked task claim cuts front (number + 1) before now) (sym w.progress-is)
-                (Walked-passed task claim cuts front number before mid c.requires.hold.viable unviable walked);
+                (Walked-passed task claim cuts front number before mid c.requires.viable unviable walked);
           }
     ]
 
 pub returns-clause-met : goal.returns-clause-met
-returns-clause-met t c = λ _.
+returns-clause-met g t c = λ _.
     let task = c.args.partial.now.task in
     let positions : length c.hold.result.now.positions ≡ length task.hold.positions =
     ap (λ (h : Layout). length h.positions) (c.hold.ensures.value ∙ ap (λ (p : Problem). p.hold) c.task-task.ensures.value) in
     let all : length task.hold.positions ≤ c.loop-number.number = omega (arith, positions, c.position_count-number-end.ensures.value, c.loop-number-test.false) in
-    met-last task (cuts_in c.args.evidence.now) c.loop-number.progress.met c.args.partial.now.prefix c.loop-number.number all c.requires.hold.viable c.loop-number.invariant.walked.met
+    met-last task (cuts_in g.C.Cut.prefix_of c.args.evidence.now) c.loop-number.progress.met c.args.partial.now.prefix c.loop-number.number all c.requires.viable c.loop-number.invariant.walked.met
 
 pub returns-clause-passed : goal.returns-clause-passed
-returns-clause-passed t c = λ _.
+returns-clause-passed g t c = λ _.
     let task = c.args.partial.now.task in
     let positions : length c.hold.result.now.positions ≡ length task.hold.positions =
     ap (λ (h : Layout). length h.positions) (c.hold.ensures.value ∙ ap (λ (p : Problem). p.hold) c.task-task.ensures.value) in
     let all : length task.hold.positions ≤ c.loop-number.number = omega (arith, positions, c.position_count-number-end.ensures.value, c.loop-number-test.false) in
-    Pass-last task (claim_in c.args.evidence.now) (cuts_in c.args.evidence.now) c.args.partial.now.prefix c.loop-number.number _ all c.loop-number.invariant.walked.passed
+    Pass-last task (claim_in c.args.evidence.now) (cuts_in g.C.Cut.prefix_of c.args.evidence.now) c.args.partial.now.prefix c.loop-number.number _ all c.loop-number.invariant.walked.passed
