@@ -1,5 +1,4 @@
 pub mod Answers
-pub mod Keys
 pub mod Near
-pub mod Search
+pub mod ReachBounds
 pub mod AnswerText

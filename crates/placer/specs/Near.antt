@@ -1,5 +1,5 @@
 -- near prefixes: those at which every search with this bound must look
-use Rattle.std.specs.Prelude.{◌≡◌, ◌≢◌, ◌↔◌, ℕ, ◌<◌, List, [], ◌∷◌, ◌++◌, length, All, AllPairs, Contains, MatchOption, IsSomeAnd}
+use Rattle.std.specs.Prelude.{◌≡◌, ◌↔◌, ℕ, List, [], ◌∷◌, ◌++◌, AllPairs, Contains, MatchOption, IsSomeAnd}
 use Rattle.hold_limits.specs.Problem.{Problem}
 use Rattle.hold_limits.specs.Placement.{IsAtMost, IsBest, key}
 use Rattle.hold_reach.specs.Reach.{IsViable, bound}
@@ -8,6 +8,7 @@ use Rattle.certificate.specs.Evidence.{claimed}
 use Rattle.certificate.specs.Good.{IsBefore, IsIncomplete}
 use Rattle.cert_checker.specs.Claims.{HasNoPlacement}
 use Rattle.cert_checker.specs.FirstReason.{AreExactly}
+pub use Rattle.best_first.specs.Promising.{AreMoreThan}
 
 -- a viable prefix whose bound, with its numbers, is at most the key of the best path. Where no path is admissible, every viable
 -- prefix is near
@@ -30,15 +31,6 @@ pub record IsNearCut (t : Problem) (prefix : List ℕ) : Type 0 where
   pub incomplete : IsIncomplete t prefix
   pub far : IsNear t prefix → ⊥
   pub parent : HasNearParent t prefix
-
--- Counts ----------------------------------------------------------------------------------------
-
--- there are more than n different lists of the kind
-pub record AreMoreThan (Kind : List ℕ → Type 0) (n : ℕ) : Type 0 where
-  pub lists : List (List ℕ)
-  pub different : AllPairs (λ p q. p ≢ q) lists
-  pub of_kind : All Kind lists
-  pub more : n < length lists
 
 -- The near certificate --------------------------------------------------------------------------
 

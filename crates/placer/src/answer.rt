@@ -7,7 +7,7 @@ ghost use Rattle.cert_checker.specs.Claims.{HasNoPlacement, IsGoodFor};
 ghost use Rattle.placer.specs.Answers.{IfBest, IfBudget, IfCertified, IfNoneFits, IsAnswerTo};
 ghost use Rattle.placer.specs.Near.{IsNearCertificate};
 
-use crate::best_first::near_certificate;
+use crate::near::near_certificate;
 use base_words::NoMemory;
 use cert_checker::{NoPlan, Proven};
 use certificate::{Certificate, Claim};

@@ -33,7 +33,8 @@ fn none_of(alloc: Global, task: &Task, no_plan: &NoPlan) -> Result<Vec<u8>, NoMe
     Ok(out.finish())
 }
 
-fn budget_of(alloc: Global, budget: u32) -> Result<Vec<u8>, NoMemory>
+/// The text of an answer that the budget is spent, which is this one.
+pub fn write_budget(alloc: Global, budget: u32) -> Result<Vec<u8>, NoMemory>
     ensures { IfOk result (λ text. text.items ≡ budget_text budget) }
 {
     let mut out = Builder::new(alloc);
@@ -52,6 +53,6 @@ pub fn write_answer(alloc: Global, task: &Task, answer: &Answer) -> Result<Vec<u
     match answer {
         Answer::Best(proven) => plan_of(alloc, task, proven),
         Answer::NoneFits(no_plan) => none_of(alloc, task, no_plan),
-        Answer::Budget(budget) => budget_of(alloc, *budget),
+        Answer::Budget(budget) => write_budget(alloc, *budget),
     }
 }

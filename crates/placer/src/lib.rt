@@ -3,8 +3,8 @@
 
 mod answer;
 mod answer_text;
-mod best_first;
-mod queue;
+mod near;
+mod reach;
 
 pub use answer::{Answer, Direct, Placing, place};
-pub use answer_text::write_answer;
+pub use answer_text::{write_answer, write_budget};
