@@ -1,0 +1,13 @@
+pub mod Approaches
+pub mod Bounds
+pub mod Ends
+pub mod Enters
+pub mod Joins
+pub mod Moves
+pub mod Pushes
+pub mod Refills
+pub mod Searches
+pub mod Starts
+pub mod Totals
+pub mod Turns
+pub mod WeakDuality
