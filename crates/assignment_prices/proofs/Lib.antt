@@ -1,0 +1,4 @@
+pub mod WayLemmas
+pub mod PriceLemmas
+pub mod LeastWay
+pub mod SpanLemmas

@@ -1,0 +1,3 @@
+pub mod TightReach
+pub mod Priced
+pub mod Steps
