@@ -1,0 +1,3 @@
+pub mod PricedText
+pub mod Refusals
+pub mod Reading
