@@ -1,0 +1,3 @@
+pub mod GoodLemmas
+mod CutLemmas
+mod ReasonLemmas
