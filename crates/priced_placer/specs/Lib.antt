@@ -1,0 +1,3 @@
+pub mod PriceNear
+pub mod Answers
+pub mod AnswerText
