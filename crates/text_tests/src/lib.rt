@@ -18,6 +18,8 @@ mod lines;
 #[cfg(test)]
 mod messages;
 #[cfg(test)]
+mod priced_certificates;
+#[cfg(test)]
 mod tasks;
 
 /// Fails a test where a row of a table is wrong, and prints the row.
