@@ -7,6 +7,8 @@ mod outside;
 #[cfg(test)]
 mod plans;
 #[cfg(test)]
+mod prices;
+#[cfg(test)]
 mod runs;
 #[cfg(test)]
 mod trees;

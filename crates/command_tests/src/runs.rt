@@ -58,6 +58,14 @@ ideal 50.00000 50.00000
 END
 ";
 
+/// Indices with a window beyond what three containers can add.
+const FAR: &str = "item AKE10003XX 600
+base 50.00000
+window 7.00000 14.00000
+ideal 50.00000 50.00000
+END
+";
+
 /// Indices of a task that does not end.
 const CUT: &str = "base 50.00000
 window -100.00000 100.00000
@@ -203,6 +211,36 @@ leaf 1
 END
 ";
 
+/// The certificate with prices that there is no plan in the far window.
+const FAR_NONE: &str = "CERTIFICATE 2
+none
+cut
+lower 40000 160000 240000 ; -640000 -480000 0 0
+upper -40000 -160000 -240000 ; 0 0 480000 640000
+expanded 0
+END
+";
+
+/// The same with a price that is a tick too small.
+const FAR_WRONG: &str = "CERTIFICATE 2
+none
+cut
+lower 40000 160000 240000 ; -640000 -480000 0 0
+upper -40000 -160000 -240000 ; 0 0 480000 639999
+expanded 0
+END
+";
+
+/// That there is no plan, in a certificate with prices.
+const PRICED_NONE: &str = "CERTIFICATE 2
+none
+";
+
+/// A plan of the worked task, in a certificate with prices.
+const PRICED_CLAIM: &str = "CERTIFICATE 2
+best 12 41
+";
+
 /// The summary of the load that is made from 0.
 const LOAD_0: &str = "GEN 0
 mass 50712
@@ -214,8 +252,20 @@ expanded 48
 END
 ";
 
-/// The text that has this name.
-fn named(name: &str) -> Option<&'static str> {
+/// Of the texts for commands with prices, the one that has this name.
+fn named_with_prices(name: &str) -> Option<&'static str> {
+    Some(match name {
+        "far" => FAR,
+        "far_none" => FAR_NONE,
+        "far_wrong" => FAR_WRONG,
+        "priced_none" => PRICED_NONE,
+        "priced_claim" => PRICED_CLAIM,
+        _ => return None,
+    })
+}
+
+/// Of the other texts, the one that has this name.
+fn named_without_prices(name: &str) -> Option<&'static str> {
     Some(match name {
         "positions" => POSITIONS,
         "forward" => FORWARD,
@@ -245,6 +295,14 @@ fn named(name: &str) -> Option<&'static str> {
         "nothing" => "",
         _ => return None,
     })
+}
+
+/// The text that has this name.
+fn named(name: &str) -> Option<&'static str> {
+    match named_without_prices(name) {
+        Some(text) => Some(text),
+        None => named_with_prices(name),
+    }
 }
 
 /// The parts of a text, which are parted by commas: names, and lines in full.

@@ -3,7 +3,7 @@ use Rattle.std.proofs.Common.{◌≡◌, ℕ, List, [], get_or, sym, ap, ◌∙�
 use Rattle.plan_commands.specs.declared.arguments.Command.{Command}
 use Rattle.plan_commands.specs.Arguments.{Job, AskFor, IsCommand, AreInvalid, arguments_of}
 use Rattle.plan_commands.specs.Commands.{job_of}
-use Rattle.plan_commands.specs.Arguments.AskFor.{place_usually, place_within, check_certificate, best_usually, best_within, check_best, generate_load}
+use Rattle.plan_commands.specs.Arguments.AskFor.{place_usually, place_within, check_certificate, best_usually, best_within, check_best, priced_usually, priced_within, check_prices, generate_load}
 use Rattle.loadctl.specs.Desk.{AskForDesk}
 use Rattle.loadctl.specs.Serve.{AskForServe, AskForNoServe}
 use Rattle.loadctl.specs.declared.asked.AskedDesk.{AskedDesk}
@@ -38,6 +38,9 @@ module _ (arguments : List (List ℕ)) where
   command-letter _ (best_usually task is) = let e : first_letter arguments ≡ 98 = ap first_letter is in (λ d. absurd (omega (arith, e, d)), λ s. absurd (omega (arith, e, s)))
   command-letter _ (best_within task n is low high) = let e : first_letter arguments ≡ 98 = ap first_letter is in (λ d. absurd (omega (arith, e, d)), λ s. absurd (omega (arith, e, s)))
   command-letter _ (check_best task c is) = let e : first_letter arguments ≡ 98 = ap first_letter is in (λ d. absurd (omega (arith, e, d)), λ s. absurd (omega (arith, e, s)))
+  command-letter _ (priced_usually task is) = let e : first_letter arguments ≡ 112 = ap first_letter is in (λ d. absurd (omega (arith, e, d)), λ s. absurd (omega (arith, e, s)))
+  command-letter _ (priced_within task n is low high) = let e : first_letter arguments ≡ 112 = ap first_letter is in (λ d. absurd (omega (arith, e, d)), λ s. absurd (omega (arith, e, s)))
+  command-letter _ (check_prices task c is) = let e : first_letter arguments ≡ 112 = ap first_letter is in (λ d. absurd (omega (arith, e, d)), λ s. absurd (omega (arith, e, s)))
   command-letter _ (generate_load n is fits) = let e : first_letter arguments ≡ 103 = ap first_letter is in (λ d. absurd (omega (arith, e, d)), λ s. absurd (omega (arith, e, s)))
 
   desk-letter : (names : List (List ℕ)) → AskForDesk arguments names → first_letter arguments ≡ d_letter

@@ -8,13 +8,15 @@ use Rattle.plan_commands.specs.declared.ending.Outcome.{Outcome}
 use Rattle.plan_commands.specs.declared.ending.Halt.{Halt}
 use Rattle.plan_commands.specs.declared.ending.Halt.TheVariants.{BadInput, ReadFault, NoMemory}
 use Rattle.plan_commands.specs.Halts.{IfBadInput}
-use Rattle.plan_commands.specs.Arguments.Job.{place, check, best, check_any, generate}
+use Rattle.plan_commands.specs.Arguments.Job.{place, check, best, check_any, priced, check_priced, generate}
 use Rattle.plan_commands.specs.NearReply.{IsPlacing, IsJudgement}
 use Rattle.plan_commands.specs.TreeReply.{IsTreePlacing}
+use Rattle.priced_certificate.specs.declared.parts.PricedCertificate.{PricedCertificate}
+use Rattle.plan_commands.specs.PricedReply.{IsPricedPlacing, IsPricedJudgement}
 use Rattle.plan_commands.specs.AnyReply.{AnyListed, IsAnyJudgement}
-use Rattle.plan_commands.specs.Reply.{IsTaskFile, IsRefusedTask, IsCertificateFile, IsRefusedCertificate, IsAnyFile, IsRefusedAny, IsSummary, IsAnswer, IsBadInput, IsAnswerOver, IsBadInputOver}
-use Rattle.plan_commands.specs.Reply.IsAnswer.{placed, judged, placed_by_trees, any_judged, summed}
-use Rattle.plan_commands.specs.Reply.IsBadInput.{bad_task, bad_checked_task, bad_certificate, bad_best_task, bad_task_of_any, bad_any}
+use Rattle.plan_commands.specs.Reply.{IsTaskFile, IsRefusedTask, IsCertificateFile, IsRefusedCertificate, IsAnyFile, IsRefusedAny, IsPricedFile, IsRefusedPriced, IsSummary, IsAnswer, IsBadInput, IsAnswerOver, IsBadInputOver}
+use Rattle.plan_commands.specs.Reply.IsAnswer.{placed, judged, placed_by_trees, any_judged, placed_with_prices, prices_judged, summed}
+use Rattle.plan_commands.specs.Reply.IsBadInput.{bad_task, bad_checked_task, bad_certificate, bad_best_task, bad_task_of_any, bad_any, bad_priced_task, bad_task_of_prices, bad_prices}
 
 over : (exposed : Option Files) (Hidden : Type 0) (P Q : Files → Type 0) → IfSome exposed P → Hidden → ((files : Files) → P files → Q files) → MatchOption exposed Hidden Q
 over None Hidden P Q holds hidden then = hidden
@@ -101,3 +103,40 @@ bad-any (BadInput line) exposed task certificate t file wrong =
     (λ files there is. bad_any task certificate t line.items there is)
 bad-any ReadFault exposed task certificate t file wrong = tt
 bad-any NoMemory exposed task certificate t file wrong = tt
+
+-- Commands for certificates with prices --------------------------------------------------------
+
+pub placed-with_prices-answer : (exposed : Option Files) (task : List ℕ) (budget : ℕ) (t : Problem) (outcome : Outcome) (text : List ℕ) → IfSome exposed (λ files. IsTaskFile files task t)
+    → IsPricedPlacing t budget outcome text → IsAnswerOver exposed (priced task budget) outcome text
+placed-with_prices-answer exposed task budget t outcome text file is =
+    over exposed (Unit {0}) (λ files. IsTaskFile files task t) (λ files. IsAnswer files (priced task budget) outcome text) file tt (λ files there. placed_with_prices task budget t outcome text there is)
+
+pub prices-judged-answer : (exposed : Option Files) (task certificate : List ℕ) (t : Problem) (c : PricedCertificate) (outcome : Outcome) (text : List ℕ)
+    → IfSome exposed (λ files. IsTaskFile files task t) → IfSome exposed (λ files. IsPricedFile files certificate t c)
+    → IsPricedJudgement t c outcome text → IsAnswerOver exposed (check_priced task certificate) outcome text
+prices-judged-answer exposed task certificate t c outcome text file evidence is =
+    over_both exposed (Unit {0}) (λ files. IsTaskFile files task t) (λ files. IsPricedFile files certificate t c) (λ files. IsAnswer files (check_priced task certificate) outcome text) file evidence tt
+    (λ files there whole. prices_judged task certificate t c outcome text there whole is)
+
+pub bad-priced_task : (halt : Halt) (exposed : Option Files) (task : List ℕ) (budget : ℕ) → IfBadInput halt (λ line. IfSome exposed (λ files. IsRefusedTask files task line))
+    → IfBadInput halt (IsBadInputOver exposed (priced task budget))
+bad-priced_task (BadInput line) exposed task budget wrong =
+    over exposed (Unit {0}) (λ files. IsRefusedTask files task line.items) (λ files. IsBadInput files (priced task budget) line.items) wrong tt (λ files is. bad_priced_task task budget line.items is)
+bad-priced_task ReadFault exposed task budget wrong = tt
+bad-priced_task NoMemory exposed task budget wrong = tt
+
+pub bad-task_of_prices : (halt : Halt) (exposed : Option Files) (task certificate : List ℕ) → IfBadInput halt (λ line. IfSome exposed (λ files. IsRefusedTask files task line))
+    → IfBadInput halt (IsBadInputOver exposed (check_priced task certificate))
+bad-task_of_prices (BadInput line) exposed task certificate wrong =
+    over exposed (Unit {0}) (λ files. IsRefusedTask files task line.items) (λ files. IsBadInput files (check_priced task certificate) line.items) wrong tt (λ files is. bad_task_of_prices task certificate line.items is)
+bad-task_of_prices ReadFault exposed task certificate wrong = tt
+bad-task_of_prices NoMemory exposed task certificate wrong = tt
+
+pub bad-prices : (halt : Halt) (exposed : Option Files) (task certificate : List ℕ) (t : Problem) → IfSome exposed (λ files. IsTaskFile files task t)
+    → IfBadInput halt (λ line. IfSome exposed (λ files. IsRefusedPriced files certificate t line))
+    → IfBadInput halt (IsBadInputOver exposed (check_priced task certificate))
+bad-prices (BadInput line) exposed task certificate t file wrong =
+    over_both exposed (Unit {0}) (λ files. IsTaskFile files task t) (λ files. IsRefusedPriced files certificate t line.items) (λ files. IsBadInput files (check_priced task certificate) line.items) file wrong tt
+    (λ files there is. bad_prices task certificate t line.items there is)
+bad-prices ReadFault exposed task certificate t file wrong = tt
+bad-prices NoMemory exposed task certificate t file wrong = tt

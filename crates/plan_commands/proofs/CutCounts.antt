@@ -9,11 +9,11 @@ use Rattle.hold_limits.specs.Faults.{IsLawful}
 use Rattle.hold_limits.proofs.LawfulBounds.{lawful-bounds}
 use Rattle.hold_partial.proofs.KeptLemmas.{last-known}
 use Rattle.certificate.specs.declared.parts.Certificate.{Certificate}
-use Rattle.certificate.specs.Good.{AreAtMost, IsBefore}
+use Rattle.certificate.specs.Good.{AreAtMost, IsBefore, IsIncomplete}
 use Rattle.cert_checker.proofs.CutOrder.{less_same_or_more}
 use Rattle.cert_checker.proofs.PathOrder.{IsBefore-not_itself}
 use Rattle.placer.specs.Near.{IsNear, IsNearAndIncomplete, IsNearCut, IsNearCertificate}
-use Rattle.placer.proofs.CountLemmas.{Contains-cons, Contains-cons_cases, Contains-later, All-from_contains, length-within}
+use Rattle.best_first.proofs.CountLemmas.{Contains-cons, Contains-cons_cases, Contains-later, All-from_contains, length-within}
 
 -- a prefix with each of the first n numbers at its end
 with_last : ℕ → List ℕ → List (List ℕ)
@@ -40,11 +40,11 @@ Contains-with_last (suc n) q prefix below = ⊎_elim
     (less_or_same q n below)
 
 -- each of the prefixes with each of the first 64 numbers at its end
-children : List (List ℕ) → List (List ℕ)
+pub children : List (List ℕ) → List (List ℕ)
 children [] = []
 children (prefix ∷ prefixes) = with_last 64 prefix ++ children prefixes
 
-length-children : (prefixes : List (List ℕ)) → length (children prefixes) ≡ 64 * length prefixes
+pub length-children : (prefixes : List (List ℕ)) → length (children prefixes) ≡ 64 * length prefixes
 unfolding children
 length-children [] = refl
 length-children (prefix ∷ prefixes) =
@@ -60,21 +60,25 @@ Contains-children (x ∷ prefixes) prefix q inside below = ⊎_elim
     (λ (later : Contains prefixes prefix). Contains-append_right (with_last 64 x) (children prefixes) (prefix ++ q ∷ []) (Contains-children prefixes prefix q later below))
     (Contains-cons_cases x prefixes prefix inside)
 
+-- a sound prefix that leaves containers is its parent, with a number below 64 at its end
+pub child-within : (t : Problem) (prefixes : List (List ℕ)) (cut parent : List ℕ) (q : ℕ) → IsLawful t → cut ≡ parent ++ q ∷ [] → IsSound t cut → IsIncomplete t cut
+    → (IsIncomplete t parent → Contains prefixes parent) → Contains (children prefixes) cut
+child-within t prefixes cut parent q lawful same sound incomplete inside =
+    let known = last-known t parent q (subst (λ (p : List ℕ). IsSound t p) same sound) in
+    let bounds = lawful-bounds t lawful in
+    let short : length parent < length t.items = omega (arith, incomplete, ap length same, length-append parent (q ∷ [])) in
+    subst (Contains (children prefixes)) (sym same) (Contains-children prefixes parent q (inside short) (omega (arith, known, bounds.positions)))
+
 -- a cut is one of the near prefixes that leave containers, with a number below 64 at its end
 cut-child : (t : Problem) (prefixes : List (List ℕ)) (cut : List ℕ) → IsLawful t → ((p : List ℕ) → IsNearAndIncomplete t p → Contains prefixes p) → IsNearCut t cut
     → Contains (children prefixes) cut
 cut-child t prefixes cut lawful every is =
     let parent = is.parent.0 in
-    let q = is.parent.1 in
-    let same : cut ≡ parent ++ q ∷ [] = is.parent.2 in
-    let known = last-known t parent q (subst (λ (p : List ℕ). IsSound t p) same is.viable.sound) in
-    let bounds = lawful-bounds t lawful in
-    let short : length parent < length t.items = omega (arith, is.incomplete, ap length same, length-append parent (q ∷ [])) in
-    subst (Contains (children prefixes)) (sym same)
-    (Contains-children prefixes parent q (every parent (record { near = is.parent.3; incomplete = short })) (omega (arith, known, bounds.positions)))
+    child-within t prefixes cut parent is.parent.1 lawful is.parent.2 is.viable.sound is.incomplete
+    (λ short. every parent (record { near = is.parent.3; incomplete = short }))
 
 -- cuts in path order are different
-differ : (cuts : List (List ℕ)) → AllPairs IsBefore cuts → AllPairs (λ p q. p ≢ q) cuts
+pub differ : (cuts : List (List ℕ)) → AllPairs IsBefore cuts → AllPairs (λ p q. p ≢ q) cuts
 differ cuts rising = λ i j d earlier within same.
     IsBefore-not_itself (get_or cuts i d) (subst (λ (p : List ℕ). IsBefore (get_or cuts i d) p) (sym same) (rising i j d earlier within))
 

@@ -8,9 +8,11 @@ use Rattle.plan_commands.specs.Halts.{IfBadInput}
 use Rattle.std.specs.Prelude.{IfSome}
 use Rattle.load_io.specs.Shelf.{Files, HasMoreThan}
 use Rattle.hold_limits.specs.Problem.{Problem}
-use Rattle.plan_commands.specs.ReplyText.{longest_task, longest_certificate, long_text}
+use Rattle.plan_commands.specs.ReplyText.{longest_task, longest_certificate, longest_priced, long_text}
 use Rattle.plan_commands.specs.Reply.{IsRefusal, Holds}
 use Rattle.plan_commands.specs.NearReply.{IsCertificateRefusal}
+use Rattle.plan_commands.specs.PricedReply.{IsPricedRefusal}
+use Rattle.plan_commands.specs.PricedReply.IsPricedRefusal.{too_long as prices_too_long}
 use Rattle.plan_commands.specs.AnyReply.{IsAnyRefusal}
 use Rattle.plan_commands.specs.AnyReply.IsAnyRefusal.{too_long as any_too_long}
 use Rattle.plan_commands.specs.Reply.IsRefusal.{too_long as task_too_long}
@@ -35,6 +37,9 @@ long-certificate-refused t line bytes is long = subst (IsCertificateRefusal t by
 
 pub long-any-refused : (t : Problem) (line bytes : List ℕ) → line ≡ long_text → longest_certificate < length bytes → IsAnyRefusal t bytes line
 long-any-refused t line bytes is long = subst (IsAnyRefusal t bytes) (sym is) (any_too_long long)
+
+pub long-prices-refused : (t : Problem) (line bytes : List ℕ) → line ≡ long_text → longest_priced < length bytes → IsPricedRefusal t bytes line
+long-prices-refused t line bytes is long = subst (IsPricedRefusal t bytes) (sym is) (prices_too_long long)
 
 -- what holds of the error that `?` returns
 pub IfErr-from_residual : {X E : Type 0} (r : Result X E) (e : E) (P : E → Type 0) → IsErrAnd r (λ x. x ≡ e) → P e → IfErr r P

@@ -6,7 +6,11 @@ pub mod CutCounts
 pub mod ShortText
 pub mod ReadBack
 pub mod SpelledLemmas
+pub mod PricedCounts
+pub mod PricedShort
+pub mod PricedBack
 pub mod JobLemmas
+pub mod PricedJobLemmas
 pub mod TreeJobLemmas
 pub mod AnswerLemmas
 pub mod OneJob

@@ -1,74 +1,51 @@
 -- Arguments ask for one job.
-use Rattle.std.proofs.Common.{◌≡◌, ℕ, List, [], length, get_or, arith, sym, ap, ◌∙◌}
-use Rattle.mass_units.proofs.SpellingLemmas.{number_text-injective}
-use Rattle.plan_commands.specs.Arguments.{Job, AskFor}
-use Rattle.plan_commands.specs.Arguments.AskFor.{place_usually, place_within, check_certificate, best_usually, best_within, check_best, generate_load}
+use Rattle.std.proofs.Common.{◌≡◌, ℕ, List, [], ◌∷◌, refl, sym, ap, ◌∙◌, bytes_eq, if◌then◌else◌}
+use Rattle.std.specs.Prelude.{codes}
+use Rattle.std.specs.Str.Parse.{digits_value}
+use Rattle.mass_units.proofs.SpellingLemmas.{digits_value-number_text}
+use Rattle.mass_units.specs.Spelling.{number_text}
+use Rattle.plan_commands.specs.Arguments.{Job, AskFor, usual_budget, usual_looks, greatest_priced_budget}
+use Rattle.plan_commands.specs.Arguments.Job.{place, check, best, check_any, priced, check_priced, generate}
+use Rattle.plan_commands.specs.Arguments.AskFor.{place_usually, place_within, check_certificate, best_usually, best_within, check_best, priced_usually, priced_within, check_prices, generate_load}
 
--- the first letter of the first argument
-first_letter : List (List ℕ) → ℕ
-first_letter words = get_or (get_or words 0 []) 0 0
+-- the job that a name and one operand ask for, if they ask for one
+one_operand : (name operand : List ℕ) → Job
+one_operand name operand =
+    if bytes_eq name (codes "place") then place operand usual_budget
+    else if bytes_eq name (codes "best") then best operand usual_looks
+    else if bytes_eq name (codes "priced") then priced operand greatest_priced_budget
+    else generate (digits_value 10 operand)
 
--- how many letters it has
-first_length : List (List ℕ) → ℕ
-first_length words = length (get_or words 0 [])
+-- the same of a name and two operands
+two_operands : (name task other : List ℕ) → Job
+two_operands name task other =
+    if bytes_eq name (codes "place") then place task (digits_value 10 other)
+    else if bytes_eq name (codes "best") then best task (digits_value 10 other)
+    else if bytes_eq name (codes "priced") then priced task (digits_value 10 other)
+    else if bytes_eq name (codes "check") then check task other
+    else if bytes_eq name (codes "bestcheck") then check_any task other
+    else check_priced task other
+
+job_in : List (List ℕ) → Job
+job_in (name ∷ operand ∷ []) = one_operand name operand
+job_in (name ∷ task ∷ other ∷ []) = two_operands name task other
+job_in others = generate 0
+
+read_number : (make : ℕ → Job) (n : ℕ) → make (digits_value 10 (number_text n)) ≡ make n
+read_number make n = ap make (digits_value-number_text n)
+
+asked-job : (arguments : List (List ℕ)) (job : Job) → AskFor arguments job → job_in arguments ≡ job
+unfolding job_in one_operand two_operands
+asked-job arguments _ (place_usually task is) = rw is refl
+asked-job arguments _ (place_within task n is low high) = rw is (read_number (place task) n)
+asked-job arguments _ (check_certificate task certificate is) = rw is refl
+asked-job arguments _ (best_usually task is) = rw is refl
+asked-job arguments _ (best_within task n is low high) = rw is (read_number (best task) n)
+asked-job arguments _ (check_best task certificate is) = rw is refl
+asked-job arguments _ (priced_usually task is) = rw is refl
+asked-job arguments _ (priced_within task n is low high) = rw is (read_number (priced task) n)
+asked-job arguments _ (check_prices task certificate is) = rw is refl
+asked-job arguments _ (generate_load n is fits) = rw is (read_number generate n)
 
 pub one_form : (arguments : List (List ℕ)) (a b : Job) → AskFor arguments a → AskFor arguments b → a ≡ b
-unfolding first_letter first_length
-one_form arguments _ _ (place_usually task is) (place_usually other same) = let e = sym is ∙ same in cc
-one_form arguments _ _ (place_usually task is) (place_within other n same low_too high_too) = let e = sym is ∙ same in absurd (cc e)
-one_form arguments _ _ (place_usually task is) (check_certificate other d same) = let e = sym is ∙ same in absurd (cc e)
-one_form arguments _ _ (place_usually task is) (best_usually other same) = let e : 112 ≡ 98 = ap first_letter (sym is ∙ same) in absurd (omega (arith, e))
-one_form arguments _ _ (place_usually task is) (best_within other n same low_too high_too) = let e = sym is ∙ same in absurd (cc e)
-one_form arguments _ _ (place_usually task is) (check_best other d same) = let e = sym is ∙ same in absurd (cc e)
-one_form arguments _ _ (place_usually task is) (generate_load n same fits_too) = let e : 112 ≡ 103 = ap first_letter (sym is ∙ same) in absurd (omega (arith, e))
-one_form arguments _ _ (place_within task m is low high) (place_usually other same) = let e = sym is ∙ same in absurd (cc e)
-one_form arguments _ _ (place_within task m is low high) (place_within other n same low_too high_too) =
-    let e = sym is ∙ same in
-    let number : m ≡ n = number_text-injective m n (cc e) in
-    cc
-one_form arguments _ _ (place_within task m is low high) (check_certificate other d same) = let e : 112 ≡ 99 = ap first_letter (sym is ∙ same) in absurd (omega (arith, e))
-one_form arguments _ _ (place_within task m is low high) (best_usually other same) = let e = sym is ∙ same in absurd (cc e)
-one_form arguments _ _ (place_within task m is low high) (best_within other n same low_too high_too) = let e : 112 ≡ 98 = ap first_letter (sym is ∙ same) in absurd (omega (arith, e))
-one_form arguments _ _ (place_within task m is low high) (check_best other d same) = let e : 112 ≡ 98 = ap first_letter (sym is ∙ same) in absurd (omega (arith, e))
-one_form arguments _ _ (place_within task m is low high) (generate_load n same fits_too) = let e = sym is ∙ same in absurd (cc e)
-one_form arguments _ _ (check_certificate task c is) (place_usually other same) = let e = sym is ∙ same in absurd (cc e)
-one_form arguments _ _ (check_certificate task c is) (place_within other n same low_too high_too) = let e : 99 ≡ 112 = ap first_letter (sym is ∙ same) in absurd (omega (arith, e))
-one_form arguments _ _ (check_certificate task c is) (check_certificate other d same) = let e = sym is ∙ same in cc
-one_form arguments _ _ (check_certificate task c is) (best_usually other same) = let e = sym is ∙ same in absurd (cc e)
-one_form arguments _ _ (check_certificate task c is) (best_within other n same low_too high_too) = let e : 99 ≡ 98 = ap first_letter (sym is ∙ same) in absurd (omega (arith, e))
-one_form arguments _ _ (check_certificate task c is) (check_best other d same) = let e : 99 ≡ 98 = ap first_letter (sym is ∙ same) in absurd (omega (arith, e))
-one_form arguments _ _ (check_certificate task c is) (generate_load n same fits_too) = let e = sym is ∙ same in absurd (cc e)
-one_form arguments _ _ (best_usually task is) (place_usually other same) = let e : 98 ≡ 112 = ap first_letter (sym is ∙ same) in absurd (omega (arith, e))
-one_form arguments _ _ (best_usually task is) (place_within other n same low_too high_too) = let e = sym is ∙ same in absurd (cc e)
-one_form arguments _ _ (best_usually task is) (check_certificate other d same) = let e = sym is ∙ same in absurd (cc e)
-one_form arguments _ _ (best_usually task is) (best_usually other same) = let e = sym is ∙ same in cc
-one_form arguments _ _ (best_usually task is) (best_within other n same low_too high_too) = let e = sym is ∙ same in absurd (cc e)
-one_form arguments _ _ (best_usually task is) (check_best other d same) = let e = sym is ∙ same in absurd (cc e)
-one_form arguments _ _ (best_usually task is) (generate_load n same fits_too) = let e : 98 ≡ 103 = ap first_letter (sym is ∙ same) in absurd (omega (arith, e))
-one_form arguments _ _ (best_within task m is low high) (place_usually other same) = let e = sym is ∙ same in absurd (cc e)
-one_form arguments _ _ (best_within task m is low high) (place_within other n same low_too high_too) = let e : 98 ≡ 112 = ap first_letter (sym is ∙ same) in absurd (omega (arith, e))
-one_form arguments _ _ (best_within task m is low high) (check_certificate other d same) = let e : 98 ≡ 99 = ap first_letter (sym is ∙ same) in absurd (omega (arith, e))
-one_form arguments _ _ (best_within task m is low high) (best_usually other same) = let e = sym is ∙ same in absurd (cc e)
-one_form arguments _ _ (best_within task m is low high) (best_within other n same low_too high_too) =
-    let e = sym is ∙ same in
-    let number : m ≡ n = number_text-injective m n (cc e) in
-    cc
-one_form arguments _ _ (best_within task m is low high) (check_best other d same) = let e : 4 ≡ 9 = ap first_length (sym is ∙ same) in absurd (omega (arith, e))
-one_form arguments _ _ (best_within task m is low high) (generate_load n same fits_too) = let e = sym is ∙ same in absurd (cc e)
-one_form arguments _ _ (check_best task c is) (place_usually other same) = let e = sym is ∙ same in absurd (cc e)
-one_form arguments _ _ (check_best task c is) (place_within other n same low_too high_too) = let e : 98 ≡ 112 = ap first_letter (sym is ∙ same) in absurd (omega (arith, e))
-one_form arguments _ _ (check_best task c is) (check_certificate other d same) = let e : 98 ≡ 99 = ap first_letter (sym is ∙ same) in absurd (omega (arith, e))
-one_form arguments _ _ (check_best task c is) (best_usually other same) = let e = sym is ∙ same in absurd (cc e)
-one_form arguments _ _ (check_best task c is) (best_within other n same low_too high_too) = let e : 9 ≡ 4 = ap first_length (sym is ∙ same) in absurd (omega (arith, e))
-one_form arguments _ _ (check_best task c is) (check_best other d same) = let e = sym is ∙ same in cc
-one_form arguments _ _ (check_best task c is) (generate_load n same fits_too) = let e = sym is ∙ same in absurd (cc e)
-one_form arguments _ _ (generate_load m is fits) (place_usually other same) = let e : 103 ≡ 112 = ap first_letter (sym is ∙ same) in absurd (omega (arith, e))
-one_form arguments _ _ (generate_load m is fits) (place_within other n same low_too high_too) = let e = sym is ∙ same in absurd (cc e)
-one_form arguments _ _ (generate_load m is fits) (check_certificate other d same) = let e = sym is ∙ same in absurd (cc e)
-one_form arguments _ _ (generate_load m is fits) (best_usually other same) = let e : 103 ≡ 98 = ap first_letter (sym is ∙ same) in absurd (omega (arith, e))
-one_form arguments _ _ (generate_load m is fits) (best_within other n same low_too high_too) = let e = sym is ∙ same in absurd (cc e)
-one_form arguments _ _ (generate_load m is fits) (check_best other d same) = let e = sym is ∙ same in absurd (cc e)
-one_form arguments _ _ (generate_load m is fits) (generate_load n same fits_too) =
-    let e = sym is ∙ same in
-    let number : m ≡ n = number_text-injective m n (cc e) in
-    cc
+one_form arguments a b first second = sym (asked-job arguments a first) ∙ asked-job arguments b second

@@ -56,7 +56,7 @@ begins-with_trees (x ∷ lines) text rest told is begins =
 
 -- Of cuts ---------------------------------------------------------------------------------------
 
-claimed_sound : (t : Problem) (claim : Option (List ℕ)) → IfSome claim (IsAdmissible t) → (path : List ℕ) → claim ≡ Some path → IsSound t path
+pub claimed_sound : (t : Problem) (claim : Option (List ℕ)) → IfSome claim (IsAdmissible t) → (path : List ℕ) → claim ≡ Some path → IsSound t path
 claimed_sound t claim admissible path is = (subst (λ o. IfSome o (IsAdmissible t)) is admissible).sound
 
 pub cuts-read_back : (t : Problem) (budget : ℕ) (c : Certificate) → IsLawful t → IsNamedTask t → IsNearCertificate t c → IsGoodFor t c → AreAtMost (IsNear t) budget
@@ -66,20 +66,20 @@ cuts-read_back t budget c lawful named near good enough low =
     let bounds = lawful-bounds t lawful in
     let differ = (hold-bounds t.hold lawful.hold).names in
     let lines = claim_lines t (claimed c.claim) in
-    let told = claim-told t (claimed c.claim) named (claimed_sound t (claimed c.claim) good.admissible) in
+    let told = claim-told t (claimed c.claim) named (claimed_sound t (claimed c.claim) good.covers.admissible) in
     let number = near-few_expanded t budget c near enough in
     let same : evidence_text t c ≡ text_of lines ++ certificate_text ps c = ap (λ text. text ++ certificate_text ps c) (claim_text-lines t (claimed c.claim)) in
-    let path : IfSome (claimed c.claim) IsFew = IfSome_then (claimed c.claim) good.admissible (λ path is. let short = is.sound.short in omega (arith, short, bounds.items)) in
-    let cuts : All IsFew c.cuts = All-weaker (IsViable t) IsFew (λ cut is. let short = is.sound.short in omega (arith, short, bounds.items)) c.cuts good.viable in
+    let path : IfSome (claimed c.claim) IsFew = IfSome_then (claimed c.claim) good.covers.admissible (λ path is. let short = is.sound.short in omega (arith, short, bounds.items)) in
+    let cuts : All IsFew c.cuts = All-weaker (IsViable t) IsFew (λ cut is. let short = is.sound.short in omega (arith, short, bounds.items)) c.cuts good.covers.viable in
     let expanded : c.expanded ≤ 50000 = omega (arith, number, low) in
     let few : length c.cuts ≤ 3200000 = omega (arith, number, low, near-few_cuts t c lawful near) in
     record {
       spelled = record {
-        short = evidence-short t c lawful named good.admissible path cuts expanded few;
+        short = evidence-short t c lawful named good.covers.admissible path cuts expanded few;
         spelled = subst (λ text. Spells ps text c) (sym same)
             (written_spells ps differ c
-            (IfSome_then (claimed c.claim) good.admissible (λ path is. IsSound-within t path is.sound))
-            (All-weaker (IsViable t) (All (λ q. q < length ps)) (λ cut is. IsSound-within t cut is.sound) c.cuts good.viable)
+            (IfSome_then (claimed c.claim) good.covers.admissible (λ path is. IsSound-within t path is.sound))
+            (All-weaker (IsViable t) (All (λ q. q < length ps)) (λ cut is. IsSound-within t cut is.sound) c.cuts good.covers.viable)
             path cuts expanded few
             (certificate_text ps c) refl lines (earlier-cuts lines told));
       };

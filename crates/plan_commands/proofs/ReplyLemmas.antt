@@ -28,14 +28,20 @@ use Rattle.plan_commands.specs.TreeReply.{AreTreesIn, IsTreeRefusal, IsTreePlaci
 use Rattle.plan_commands.specs.TreeReply.IsTreeRefusal.{too_long as trees_too_long, no_trees}
 use Rattle.plan_commands.specs.TreeReply.IsTreePlacing.{plan as tree_plan, nothing_fits as tree_nothing_fits, near_plan, nothing_near, undecided}
 use Rattle.plan_commands.specs.TreeReply.IsTreeJudgement.{good as good_trees, rejected as rejected_trees}
+use Rattle.priced_certificate.specs.declared.parts.PricedCertificate.{PricedCertificate}
+use Rattle.priced_certificate.proofs.PricedParts.{spelled_has_no_fault as prices_have_no_fault}
+use Rattle.plan_commands.specs.PricedReply.{IsPricedIn, IsPricedRefusal, IsPricedPlacing, IsPricedJudgement}
+use Rattle.plan_commands.specs.PricedReply.IsPricedRefusal.{too_long as prices_too_long, no_certificate as no_prices}
+use Rattle.plan_commands.specs.PricedReply.IsPricedPlacing.{plan as priced_plan, nothing_fits as priced_nothing_fits, over_budget as priced_over_budget}
+use Rattle.plan_commands.specs.PricedReply.IsPricedJudgement.{good as good_prices, rejected as rejected_prices}
 use Rattle.plan_commands.specs.AnyReply.{AnyListed, IsAnyIn, IsAnyRefusal, IsAnyJudgement}
 use Rattle.plan_commands.specs.AnyReply.AnyListed.{of_cuts, of_trees}
 use Rattle.plan_commands.specs.AnyReply.IsAnyRefusal.{too_long as any_too_long, no_cuts, no_trees as none_of_trees}
-use Rattle.plan_commands.specs.Reply.{IsTaskIn, IsRefusal, IsCertificateFile, IsAnyFile, IsSummary, IsAnswer, IsAnswerAlone, IsAnswerOver, IsBadInput, NeedsFiles, IsBadInputOver, IsReply, IsReplyOver, HasInput, HaveInput, HaveBadInput, IsAnswered}
+use Rattle.plan_commands.specs.Reply.{IsTaskIn, IsRefusal, IsCertificateFile, IsAnyFile, IsPricedFile, IsSummary, IsAnswer, IsAnswerAlone, IsAnswerOver, IsBadInput, NeedsFiles, IsBadInputOver, IsReply, IsReplyOver, HasInput, HaveInput, HaveBadInput, IsAnswered}
 use Rattle.plan_commands.specs.Reply.IsRefusal.{too_long as task_too_long, no_task}
 use Rattle.plan_commands.specs.Reply.IsSummary.{plan_summed, none_summed, budget_summed}
-use Rattle.plan_commands.specs.Reply.IsAnswer.{placed, judged, placed_by_trees, any_judged, summed}
-use Rattle.plan_commands.specs.Reply.IsBadInput.{bad_task, bad_checked_task, bad_certificate, bad_best_task, bad_task_of_any, bad_any}
+use Rattle.plan_commands.specs.Reply.IsAnswer.{placed, judged, placed_by_trees, any_judged, placed_with_prices, prices_judged, summed}
+use Rattle.plan_commands.specs.Reply.IsBadInput.{bad_task, bad_checked_task, bad_certificate, bad_best_task, bad_task_of_any, bad_any, bad_priced_task, bad_task_of_prices, bad_prices}
 use Rattle.plan_commands.specs.Reply.IsReply.{answered, refused, usage}
 use Rattle.plan_commands.specs.Reply.IsAnswered.{is_done, is_nothing_fits, is_over_budget, is_undecided, is_rejected}
 use Rattle.plan_commands.proofs.OneJob.{one_form}
@@ -72,6 +78,13 @@ trees-not_refused t bytes _ c named right (no_trees fault line short why is) =
     let none : fault ≡ cert.NoMemory = trees_have_no_fault t.hold.positions named bytes c fault right.spelled why in
     rw none at is
 
+prices-not_refused : (t : Problem) (bytes line : List ℕ) (c : PricedCertificate) → All (λ (q : Position). IsName q.name) t.hold.positions
+    → IsPricedIn t bytes c → IsPricedRefusal t bytes line → ⊥
+prices-not_refused t bytes _ c named right (prices_too_long long) = absurd (omega (arith, right.short))
+prices-not_refused t bytes _ c named right (no_prices fault line short why is) =
+    let none : fault ≡ cert.NoMemory = prices_have_no_fault t.hold.positions named bytes c fault right.spelled why in
+    rw none at is
+
 any-not_refused : (t : Problem) (bytes line : List ℕ) (c : AnyListed) → All (λ (q : Position). IsName q.name) t.hold.positions
     → IsAnyIn t bytes c → IsAnyRefusal t bytes line → ⊥
 any-not_refused t bytes _ (of_cuts c) named right (any_too_long long) = absurd (omega (arith, right.1.short))
@@ -105,6 +118,17 @@ right-not_bad files _ _ (bad_any task certificate t line there wrong) input =
     both (files certificate) (λ bytes. IsAnyIn t bytes input.1) (λ bytes. IsAnyRefusal t bytes line)
     (subst (λ (p : Problem). IsAnyFile files certificate p input.1) same input.3) wrong
     (λ evidence whole refusal. any-not_refused t evidence line input.1 (names bytes t other) whole refusal))
+right-not_bad files _ _ (bad_priced_task task budget line wrong) input =
+    both (files task) (λ bytes. IsTaskIn bytes input.0) (λ bytes. IsRefusal bytes line) input.1 wrong (λ bytes right long. task-not_refused bytes line input.0 right long)
+right-not_bad files _ _ (bad_task_of_prices task certificate line wrong) input =
+    both (files task) (λ bytes. IsTaskIn bytes input.0) (λ bytes. IsRefusal bytes line) input.2 wrong (λ bytes right long. task-not_refused bytes line input.0 right long)
+right-not_bad files _ _ (bad_prices task certificate t line there wrong) input =
+    both (files task) (λ bytes. IsTaskIn bytes input.0) (λ bytes. IsTaskIn bytes t) input.2 there
+    (λ bytes right other.
+    let same : input.0 ≡ t = spelled_once bytes input.0 t right.spelled other.spelled in
+    both (files certificate) (λ bytes. IsPricedIn t bytes input.1) (λ bytes. IsPricedRefusal t bytes line)
+    (subst (λ (p : Problem). IsPricedFile files certificate p input.1) same input.3) wrong
+    (λ evidence whole refusal. prices-not_refused t evidence line input.1 (names bytes t other) whole refusal))
 
 -- Answers ---------------------------------------------------------------------------------------
 
@@ -137,11 +161,22 @@ pub any-judgement-answered : (t : Problem) (c : AnyListed) (outcome : Outcome) (
 any-judgement-answered t (of_cuts c) outcome text is = judgement-answered t c outcome text is
 any-judgement-answered t (of_trees c) outcome text is = tree-judgement-answered t c outcome text is
 
+pub priced-placing-answered : (t : Problem) (budget : ℕ) (outcome : Outcome) (text : List ℕ) → IsPricedPlacing t budget outcome text → IsAnswered outcome
+priced-placing-answered t budget _ _ (priced_plan path c best claim evidence back) = is_done
+priced-placing-answered t budget _ _ (priced_nothing_fits c none claim evidence back) = is_nothing_fits
+priced-placing-answered t budget _ _ (priced_over_budget more) = is_over_budget
+
+pub priced-judgement-answered : (t : Problem) (c : PricedCertificate) (outcome : Outcome) (text : List ℕ) → IsPricedJudgement t c outcome text → IsAnswered outcome
+priced-judgement-answered t c _ _ (good_prices is so) = is_done
+priced-judgement-answered t c _ _ (rejected_prices reason first) = is_rejected
+
 answer-answered : (files : Files) (job : Job) (outcome : Outcome) (text : List ℕ) → IsAnswer files job outcome text → IsAnswered outcome
 answer-answered files _ _ _ (placed task budget t outcome text file is) = placing-answered t budget outcome text is
 answer-answered files _ _ _ (judged task certificate t c outcome text file evidence is) = judgement-answered t c outcome text is
 answer-answered files _ _ _ (placed_by_trees task looks t outcome text file is) = tree-placing-answered t looks outcome text is
 answer-answered files _ _ _ (any_judged task certificate t c outcome text file evidence is) = any-judgement-answered t c outcome text is
+answer-answered files _ _ _ (placed_with_prices task budget t outcome text file is) = priced-placing-answered t budget outcome text is
+answer-answered files _ _ _ (prices_judged task certificate t c outcome text file evidence is) = priced-judgement-answered t c outcome text is
 answer-answered files _ _ _ (summed number outcome text is) = summary-answered number outcome text is
 
 answer-input : (files : Files) (job : Job) (outcome : Outcome) (text : List ℕ) → IsAnswer files job outcome text → HasInput files job
@@ -149,6 +184,8 @@ answer-input files _ _ _ (placed task budget t outcome text file is) = (t, file)
 answer-input files _ _ _ (judged task certificate t c outcome text file evidence is) = (t, c, file, evidence)
 answer-input files _ _ _ (placed_by_trees task looks t outcome text file is) = (t, file)
 answer-input files _ _ _ (any_judged task certificate t c outcome text file evidence is) = (t, c, file, evidence)
+answer-input files _ _ _ (placed_with_prices task budget t outcome text file is) = (t, file)
+answer-input files _ _ _ (prices_judged task certificate t c outcome text file evidence is) = (t, c, file, evidence)
 answer-input files _ _ _ (summed number outcome text is) = tt
 
 pub answered-not_usage : (outcome : Outcome) → IsAnswered outcome → outcome ≢ Usage

@@ -76,12 +76,12 @@ unfolding spread
 spread-names ps names [] = omega arith
 spread-names ps names (q ∷ path) = omega (arith, name-short ps names q, spread-names ps names path)
 
-path-short : (word : List ℕ) (ps : List Position) (path : List ℕ) → All HasShortName ps → length word ≤ 4 → length path ≤ 60 → IsShort (path_line word ps path)
+pub path-short : (word : List ℕ) (ps : List Position) (path : List ℕ) → All HasShortName ps → length word ≤ 4 → length path ≤ 60 → IsShort (path_line word ps path)
 path-short word ps path names small few = record { short = omega (arith, length-line word (map (name_at ps) path), spread-names ps names path, small, few) }
 
 -- Numbers ---------------------------------------------------------------------------------------
 
-number-short : (n : ℕ) → n < 2 ^ 63 → length (number_text n) ≤ 20
+pub number-short : (n : ℕ) → n < 2 ^ 63 → length (number_text n) ≤ 20
 number-short n small = subst (λ text. length text ≤ 20) (sym (number_text-decimal n (omega (arith, small)))) (length-decimal-le 20 n (omega arith) (omega (arith, small)) (omega (arith, small)))
 
 signed-short : (z : ℤ) → unsigned_abs z < 2 ^ 63 → length (signed_text z) ≤ 21
@@ -98,13 +98,13 @@ index-short (pos n) small = omega (arith, units-short n small)
 index-short (negsuc n) small = omega (arith, units-short (suc n) small)
 
 -- a short word and a short one behind it
-pair-short : (word other : List ℕ) → length word ≤ 20 → length other ≤ 100 → IsShort (line_of (word ∷ other ∷ []))
+pub pair-short : (word other : List ℕ) → length word ≤ 20 → length other ≤ 100 → IsShort (line_of (word ∷ other ∷ []))
 unfolding spread
 pair-short word other small short = record { short = omega (arith, length-line word (other ∷ []), small, short) }
 
 -- Certificates ----------------------------------------------------------------------------------
 
-claim-short : (ps : List Position) (claim : Claim) → All HasShortName ps → IfSome (claimed claim) (λ path. length path ≤ 60) → IsShort (claim_line ps claim)
+pub claim-short : (ps : List Position) (claim : Claim) → All HasShortName ps → IfSome (claimed claim) (λ path. length path ≤ 60) → IsShort (claim_line ps claim)
 claim-short ps (Best path) names few = path-short (codes "best") ps path.items names (omega arith) few
 claim-short ps NoneFits names few = record { short = omega arith }
 
@@ -217,7 +217,7 @@ plan-short t path lawful names ids short =
 
 -- Answers ---------------------------------------------------------------------------------------
 
-claimed-short : (t : Problem) (claim : Option (List ℕ)) → IsLawful t → IsNamedTask t → IfSome claim (IsAdmissible t) → AreFewShort (claim_lines t claim)
+pub claimed-short : (t : Problem) (claim : Option (List ℕ)) → IsLawful t → IsNamedTask t → IfSome claim (IsAdmissible t) → AreFewShort (claim_lines t claim)
 claimed-short t None lawful named admissible = record {
   all = All-cons IsShort (codes "NONE") [] (record { short = omega arith }) (All-nil IsShort);
   few = omega arith;

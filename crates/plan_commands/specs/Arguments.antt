@@ -24,6 +24,10 @@ usual_looks = 20000
 abbrev pub greatest_looks : ℕ
 greatest_looks = 1000000
 
+-- the greatest budget of a search with prices, and its budget if the arguments name none
+abbrev pub greatest_priced_budget : ℕ
+greatest_priced_budget = 500
+
 -- what the program can be asked for
 pub data Job : Type 0 where
   -- the best placement of the task in a file, with a budget
@@ -34,6 +38,10 @@ pub data Job : Type 0 where
   best : (task : List ℕ) (looks : ℕ) → Job
   -- whether a certificate of either kind in a file is good for the task in another
   check_any : (task certificate : List ℕ) → Job
+  -- the best placement of the task in a file by a search with prices, with a budget
+  priced : (task : List ℕ) (budget : ℕ) → Job
+  -- whether a certificate with prices in a file is good for the task in another
+  check_priced : (task certificate : List ℕ) → Job
   -- the placement of the load that is made from a number
   generate : (number : ℕ) → Job
 
@@ -55,6 +63,14 @@ pub data AskFor (arguments : List (List ℕ)) : Job → Type 0 where
   -- `bestcheck TASK CERTIFICATE`
   check_best : (task certificate : List ℕ) → arguments ≡ codes "bestcheck" ∷ task ∷ certificate ∷ []
       → AskFor arguments (check_any task certificate)
+  -- `priced TASK`
+  priced_usually : (task : List ℕ) → arguments ≡ codes "priced" ∷ task ∷ [] → AskFor arguments (priced task greatest_priced_budget)
+  -- `priced TASK BUDGET`
+  priced_within : (task : List ℕ) (budget : ℕ) → arguments ≡ codes "priced" ∷ task ∷ number_text budget ∷ [] → 1 ≤ budget → budget ≤ greatest_priced_budget
+      → AskFor arguments (priced task budget)
+  -- `pricedcheck TASK CERTIFICATE`
+  check_prices : (task certificate : List ℕ) → arguments ≡ codes "pricedcheck" ∷ task ∷ certificate ∷ []
+      → AskFor arguments (check_priced task certificate)
   -- `gen NUMBER`
   generate_load : (number : ℕ) → arguments ≡ codes "gen" ∷ number_text number ∷ [] → number < 2 ^ 32 → AskFor arguments (generate number)
 

@@ -8,6 +8,7 @@ pub mod Kinds
 pub mod Names
 pub mod NearReply
 pub mod TreeReply
+pub mod PricedReply
 pub mod AnyReply
 pub mod Reply
 pub mod Run

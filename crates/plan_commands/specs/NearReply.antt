@@ -11,6 +11,7 @@ use Rattle.certificate.specs.declared.parts.Certificate.{Certificate}
 use Rattle.cert_checker.specs.Claims.{HasNoPlacement, IsGoodFor}
 use Rattle.cert_checker.specs.FirstReason.{IsFirstReason}
 use Rattle.cert_checker.specs.declared.reject.Reject.{Reject}
+use Rattle.priced_checker.specs.FirstReason.{priced_reason}
 use Rattle.placer.specs.Near.{AreMoreThan, IsNear, IsNearCertificate}
 use Rattle.placer.specs.AnswerText.{evidence_text, budget_text}
 use Rattle.plan_commands.specs.declared.ending.Outcome.{Outcome}
@@ -62,4 +63,4 @@ pub data IsJudgement (t : Problem) (c : Certificate) : Outcome → List ℕ → 
   good : IsGoodFor t c → IsTrueOf t (claimed c.claim) → IsJudgement t c Done (good_text c.claim)
   -- this is the first reason for which it is not good
   rejected : (reason : Reject) → IsFirstReason t (claimed c.claim) c.cuts c.expanded reason
-      → IsJudgement t c Rejected (rejected_text t reason)
+      → IsJudgement t c Rejected (rejected_text t (priced_reason reason))

@@ -3,6 +3,8 @@ use Rattle.std.specs.Prelude.{◌≡◌, ℕ, List, Some}
 use Rattle.certificate.specs.Evidence.{claimed}
 use Rattle.placer.specs.declared.answer.Answer.{Answer}
 use Rattle.placer.specs.declared.answer.Answer.TheVariants.{Best, NoneFits, Budget}
+use Rattle.priced_placer.specs.declared.answer.PricedAnswer.{PricedAnswer}
+use Rattle.priced_placer.specs.declared.answer.PricedAnswer.TheVariants as priced
 use Rattle.plan_commands.specs.declared.ending.Outcome.{Outcome}
 use Rattle.plan_commands.specs.declared.ending.Outcome.TheVariants.{Done, NothingFits, OverBudget}
 use Rattle.plan_commands.specs.ReplyText.{plan_summary, none_summary, budget_summary}
@@ -11,6 +13,11 @@ abbrev pub outcome_of : Answer → Outcome
 outcome_of (Best proven) = Done
 outcome_of (NoneFits no_plan) = NothingFits
 outcome_of (Budget n) = OverBudget
+
+abbrev pub priced_outcome : PricedAnswer → Outcome
+priced_outcome (priced.Best c) = Done
+priced_outcome (priced.NoneFits c) = NothingFits
+priced_outcome (priced.Budget n) = OverBudget
 
 abbrev pub summary_outcome : Answer → Outcome
 summary_outcome (Best proven) = Done

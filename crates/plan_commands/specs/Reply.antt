@@ -8,6 +8,7 @@ use Rattle.problem_text.specs.Refusals.{IsRefused}
 use Rattle.problem_text.specs.declared.fault.TextFault.{TextFault}
 use Rattle.certificate.specs.Evidence.{claimed}
 use Rattle.certificate.specs.declared.parts.Certificate.{Certificate}
+use Rattle.priced_certificate.specs.declared.parts.PricedCertificate.{PricedCertificate}
 use Rattle.cert_checker.specs.Claims.{HasNoPlacement}
 use Rattle.placer.specs.Near.{AreMoreThan, IsNear}
 use Rattle.generated_load.specs.Load.{generated_problem}
@@ -15,10 +16,11 @@ use Rattle.load_io.specs.Shelf.{Files}
 use Rattle.plan_commands.specs.declared.ending.Outcome.{Outcome}
 use Rattle.plan_commands.specs.declared.ending.Outcome.TheVariants.{Done, Usage, BadInput, NothingFits, OverBudget, Undecided, Rejected}
 use Rattle.plan_commands.specs.Arguments.{Job, IsCommand, AreInvalid, usual_budget}
-use Rattle.plan_commands.specs.Arguments.Job.{place, check, best, check_any, generate}
+use Rattle.plan_commands.specs.Arguments.Job.{place, check, best, check_any, priced, check_priced, generate}
 use Rattle.plan_commands.specs.ReplyText.{longest_task, IsFaultLine, long_text, usage_text, plan_summary, none_summary, budget_summary}
 use Rattle.plan_commands.specs.NearReply.{IsCertificateIn, IsCertificateRefusal, IsEvidence, IsPlacing, IsJudgement}
 use Rattle.plan_commands.specs.TreeReply.{IsTreePlacing}
+use Rattle.plan_commands.specs.PricedReply.{IsPricedIn, IsPricedRefusal, IsPricedPlacing, IsPricedJudgement}
 use Rattle.plan_commands.specs.AnyReply.{AnyListed, IsAnyIn, IsAnyRefusal, IsAnyJudgement}
 
 -- Files -----------------------------------------------------------------------------------------
@@ -60,6 +62,12 @@ IsAnyFile files name t c = Holds files name (λ bytes. IsAnyIn t bytes c)
 abbrev pub IsRefusedAny : Files → List ℕ → Problem → List ℕ → Type 0
 IsRefusedAny files name t line = Holds files name (λ bytes. IsAnyRefusal t bytes line)
 
+abbrev pub IsPricedFile : Files → List ℕ → Problem → PricedCertificate → Type 0
+IsPricedFile files name t c = Holds files name (λ bytes. IsPricedIn t bytes c)
+
+abbrev pub IsRefusedPriced : Files → List ℕ → Problem → List ℕ → Type 0
+IsRefusedPriced files name t line = Holds files name (λ bytes. IsPricedRefusal t bytes line)
+
 -- Answers ---------------------------------------------------------------------------------------
 
 -- the summary of the placement of a generated load
@@ -80,6 +88,10 @@ pub data IsAnswer (files : Files) : Job → Outcome → List ℕ → Type 0 wher
       → IsTreePlacing t looks outcome text → IsAnswer files (best task looks) outcome text
   any_judged : (task certificate : List ℕ) (t : Problem) (c : AnyListed) (outcome : Outcome) (text : List ℕ) → IsTaskFile files task t
       → IsAnyFile files certificate t c → IsAnyJudgement t c outcome text → IsAnswer files (check_any task certificate) outcome text
+  placed_with_prices : (task : List ℕ) (budget : ℕ) (t : Problem) (outcome : Outcome) (text : List ℕ) → IsTaskFile files task t
+      → IsPricedPlacing t budget outcome text → IsAnswer files (priced task budget) outcome text
+  prices_judged : (task certificate : List ℕ) (t : Problem) (c : PricedCertificate) (outcome : Outcome) (text : List ℕ) → IsTaskFile files task t
+      → IsPricedFile files certificate t c → IsPricedJudgement t c outcome text → IsAnswer files (check_priced task certificate) outcome text
   summed : (number : ℕ) (outcome : Outcome) (text : List ℕ) → IsSummary number outcome text → IsAnswer files (generate number) outcome text
 
 -- the first file of a job that is refused, and its line
@@ -92,6 +104,10 @@ pub data IsBadInput (files : Files) : Job → List ℕ → Type 0 where
   bad_task_of_any : (task certificate line : List ℕ) → IsRefusedTask files task line → IsBadInput files (check_any task certificate) line
   bad_any : (task certificate : List ℕ) (t : Problem) (line : List ℕ) → IsTaskFile files task t → IsRefusedAny files certificate t line
       → IsBadInput files (check_any task certificate) line
+  bad_priced_task : (task : List ℕ) (budget : ℕ) (line : List ℕ) → IsRefusedTask files task line → IsBadInput files (priced task budget) line
+  bad_task_of_prices : (task certificate line : List ℕ) → IsRefusedTask files task line → IsBadInput files (check_priced task certificate) line
+  bad_prices : (task certificate : List ℕ) (t : Problem) (line : List ℕ) → IsTaskFile files task t → IsRefusedPriced files certificate t line
+      → IsBadInput files (check_priced task certificate) line
 
 -- the reply to the arguments: an outcome and its text
 pub data IsReply (arguments : List (List ℕ)) (files : Files) : Outcome → List ℕ → Type 0 where
@@ -132,6 +148,8 @@ HasInput files (place task budget) = (t : Problem) × IsTaskFile files task t
 HasInput files (check task certificate) = (t : Problem) × (c : Certificate) × IsTaskFile files task t × IsCertificateFile files certificate t c
 HasInput files (best task looks) = (t : Problem) × IsTaskFile files task t
 HasInput files (check_any task certificate) = (t : Problem) × (c : AnyListed) × IsTaskFile files task t × IsAnyFile files certificate t c
+HasInput files (priced task budget) = (t : Problem) × IsTaskFile files task t
+HasInput files (check_priced task certificate) = (t : Problem) × (c : PricedCertificate) × IsTaskFile files task t × IsPricedFile files certificate t c
 HasInput files (generate number) = Unit {0}
 
 -- the arguments are a command whose files are there and right

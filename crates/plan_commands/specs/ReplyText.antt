@@ -18,8 +18,8 @@ use Rattle.certificate.specs.declared.fault.CertFault.TheVariants as cert
 use Rattle.certificate.specs.declared.parts.Claim.{Claim}
 use Rattle.certificate.specs.declared.parts.Claim.TheVariants.{Best, NoneFits}
 use Rattle.certificate.specs.declared.parts.Certificate.{Certificate}
-use Rattle.cert_checker.specs.declared.reject.Reject.{Reject}
-use Rattle.cert_checker.specs.declared.reject.Reject.TheVariants.{NotAPlacement, CutOrder, CutNotViable, CutWeak, Nearer, Exists, MoreExpanded}
+use Rattle.priced_checker.specs.declared.reject.PricedReject.{PricedReject}
+use Rattle.priced_checker.specs.declared.reject.PricedReject.TheVariants.{NotAPlacement, CutOrder, CutNotViable, CutWeak, Nearer, Exists, MoreExpanded, Prices}
 use Rattle.tree_certificate.specs.Listed.{ListedTrees}
 use Rattle.tree_certificate.specs.TreeText.{tree_text}
 use Rattle.tree_checker.specs.declared.rejection.TreeRejection.{TreeRejection}
@@ -33,12 +33,15 @@ usage_text = one_line (codes "USAGE" ∷ [])
 
 -- Refused files ---------------------------------------------------------------------------------
 
--- a file of a task, and one of a certificate, has at most so many bytes
+-- a file of a task, and one of a certificate of cuts or of trees, and one with prices, has at most so many bytes
 abbrev pub longest_task : ℕ
 longest_task = 1048576
 
 abbrev pub longest_certificate : ℕ
 longest_certificate = 805306368
+
+abbrev pub longest_priced : ℕ
+longest_priced = 138000000
 
 abbrev pub long_text : List ℕ
 long_text = one_line (codes "INPUT" ∷ codes "LONG" ∷ [])
@@ -95,7 +98,7 @@ abbrev pub rejected_at_text : ℕ → ℕ → List ℕ
 rejected_at_text reason at = one_line (codes "REJECTED" ∷ number_text reason ∷ number_text at ∷ [])
 
 -- the reason with its place, or with the names of the positions of its path
-abbrev pub rejected_text : Problem → Reject → List ℕ
+abbrev pub rejected_text : Problem → PricedReject → List ℕ
 rejected_text t NotAPlacement = one_line (codes "REJECTED 1" ∷ [])
 rejected_text t (CutOrder at) = rejected_at_text 2 at
 rejected_text t (CutNotViable at) = rejected_at_text 3 at
@@ -103,6 +106,7 @@ rejected_text t (CutWeak at) = rejected_at_text 4 at
 rejected_text t (Nearer path) = text_of (path_line (codes "REJECTED 5") t.hold.positions path.items ∷ [])
 rejected_text t (Exists path) = text_of (path_line (codes "REJECTED 6") t.hold.positions path.items ∷ [])
 rejected_text t MoreExpanded = one_line (codes "REJECTED 7" ∷ [])
+rejected_text t (Prices at) = rejected_at_text 8 at
 
 -- the line for the reason against a certificate of trees, with its places; out of memory has none
 abbrev pub IsTreeRejectionLine : TreeRejection → List ℕ → Type 0

@@ -2,7 +2,7 @@
 
 ghost use Rattle.std.specs.Prelude.{◌≡◌, ◌≤◌, ◌<◌, ◌^◌, ◌↔◌, ◌∷◌, [], All, false, IsTrue, IfSome, IfNone, ℕ, string_bytes};
 ghost use Rattle.mass_units.specs.Spelling.{number_text};
-ghost use Rattle.plan_commands.specs.Arguments.{arguments_of, greatest_budget, greatest_looks, BeginsWithMinus, Job, AskFor, IsCommand, AreInvalid};
+ghost use Rattle.plan_commands.specs.Arguments.{arguments_of, BeginsWithMinus, Job, AskFor, IsCommand, AreInvalid};
 ghost use Rattle.plan_commands.specs.Commands.{job_of};
 
 use mass_units::{read_long_number, read_number};
@@ -18,6 +18,9 @@ const USUAL_LOOKS: u32 = 20_000;
 
 const GREATEST_LOOKS: u32 = 1_000_000;
 
+/// The greatest budget of a search with prices, and its budget if the arguments name none.
+const GREATEST_PRICED_BUDGET: u32 = 500;
+
 /// What the arguments ask for.
 #[derive(Clone, Copy, Debug)]
 pub enum Command<'a> {
@@ -31,6 +34,11 @@ pub enum Command<'a> {
     Best { task: &'a str, looks: u32 },
     /// `bestcheck TASK CERTIFICATE`: whether the certificate of either kind in a file is good for the task in another.
     CheckAny { task: &'a str, certificate: &'a str },
+    /// `priced TASK` or `priced TASK BUDGET`: the best placement of the task in a file, by a search with prices. The
+    /// budget is how many price-near prefixes it may look at.
+    Priced { task: &'a str, budget: u32 },
+    /// `pricedcheck TASK CERTIFICATE`: whether the certificate with prices in a file is good for the task in another.
+    CheckPriced { task: &'a str, certificate: &'a str },
     /// `gen NUMBER`: the best placement of the load that is made from the number.
     Generate { number: u32 },
 }
@@ -50,18 +58,13 @@ pub fn are_plain(arguments: &[String]) -> bool
         .all(|argument| !begins_with_minus(argument.as_str()))
 }
 
-fn budget_from(argument: &str) -> Option<u32>
-    ensures some { IfSome result (λ n. (argument.now ≡ number_text n) × (1 ≤ n) × (n ≤ greatest_budget)) }
-    ensures none { IfNone result ((n : ℕ) → 1 ≤ n → n ≤ greatest_budget → argument.now ≡ number_text n → ⊥) }
+/// How much a search may look at, where this is the most.
+fn effort_from(argument: &str, most: u32) -> Option<u32>
+    requires { most < 1000000000 }
+    ensures some { IfSome result (λ n. (argument.now ≡ number_text n) × (1 ≤ n) × (n ≤ most)) }
+    ensures none { IfNone result ((n : ℕ) → 1 ≤ n → n ≤ most → argument.now ≡ number_text n → ⊥) }
 {
-    read_number(argument.as_bytes()).filter(|budget| (1..=GREATEST_BUDGET).contains(budget))
-}
-
-fn looks_from(argument: &str) -> Option<u32>
-    ensures some { IfSome result (λ n. (argument.now ≡ number_text n) × (1 ≤ n) × (n ≤ greatest_looks)) }
-    ensures none { IfNone result ((n : ℕ) → 1 ≤ n → n ≤ greatest_looks → argument.now ≡ number_text n → ⊥) }
-{
-    read_number(argument.as_bytes()).filter(|looks| (1..=GREATEST_LOOKS).contains(looks))
+    read_number(argument.as_bytes()).filter(|number| (1..=most).contains(number))
 }
 
 fn number_from(argument: &str) -> Option<u32>
@@ -71,7 +74,7 @@ fn number_from(argument: &str) -> Option<u32>
     read_long_number(argument.as_bytes())
 }
 
-/// `place TASK`, `best TASK`, or `gen NUMBER`.
+/// `place TASK`, `best TASK`, `priced TASK`, or `gen NUMBER`.
 fn with_one_operand<'a>(name: &str, operand: &'a str) -> Option<Command<'a>>
     ensures some { IfSome result (λ command. AskFor (name.now ∷ operand.now ∷ []) (job_of command)) }
     ensures none { IfNone result ((job : Job) → AskFor (name.now ∷ operand.now ∷ []) job → ⊥) }
@@ -88,6 +91,12 @@ fn with_one_operand<'a>(name: &str, operand: &'a str) -> Option<Command<'a>>
             looks: USUAL_LOOKS,
         });
     }
+    if name == "priced" {
+        return Some(Command::Priced {
+            task: operand,
+            budget: GREATEST_PRICED_BUDGET,
+        });
+    }
     if name == "gen" {
         let number = number_from(operand)?;
         return Some(Command::Generate { number });
@@ -95,31 +104,33 @@ fn with_one_operand<'a>(name: &str, operand: &'a str) -> Option<Command<'a>>
     None
 }
 
-/// `place TASK BUDGET`, `best TASK LOOKS`, `check TASK CERTIFICATE`, or `bestcheck TASK CERTIFICATE`.
+/// `place TASK BUDGET`, `best TASK LOOKS`, `priced TASK BUDGET`, or a check of a certificate in a file.
 fn with_two_operands<'a>(name: &str, task: &'a str, other: &'a str) -> Option<Command<'a>>
     ensures some { IfSome result
         (λ command. AskFor (name.now ∷ task.now ∷ other.now ∷ []) (job_of command)) }
     ensures none { IfNone result ((job : Job) → AskFor (name.now ∷ task.now ∷ other.now ∷ []) job → ⊥) }
 {
     if name == "place" {
-        let budget = budget_from(other)?;
+        let budget = effort_from(other, GREATEST_BUDGET)?;
         return Some(Command::Place { task, budget });
     }
     if name == "best" {
-        let looks = looks_from(other)?;
+        let looks = effort_from(other, GREATEST_LOOKS)?;
         return Some(Command::Best { task, looks });
     }
+    if name == "priced" {
+        let budget = effort_from(other, GREATEST_PRICED_BUDGET)?;
+        return Some(Command::Priced { task, budget });
+    }
+    let certificate = other;
     if name == "check" {
-        return Some(Command::Check {
-            task,
-            certificate: other,
-        });
+        return Some(Command::Check { task, certificate });
     }
     if name == "bestcheck" {
-        return Some(Command::CheckAny {
-            task,
-            certificate: other,
-        });
+        return Some(Command::CheckAny { task, certificate });
+    }
+    if name == "pricedcheck" {
+        return Some(Command::CheckPriced { task, certificate });
     }
     None
 }

@@ -3,12 +3,13 @@
 ghost use Rattle.std.specs.Prelude.{◌≡◌, ◌≢◌, ◌≤◌, Err, IfOk, IfErr, IfSome, length};
 ghost use Rattle.base_words.specs.Faults.{Rose};
 ghost use Rattle.load_io.specs.Shelf.{IsWhole, HasMoreThan};
-ghost use Rattle.plan_commands.specs.ReplyText.{longest_task, longest_certificate, long_text};
+ghost use Rattle.plan_commands.specs.ReplyText.{longest_task, longest_certificate, longest_priced, long_text};
 ghost use Rattle.tree_certificate.specs.Listed.{listed_trees};
 ghost use Rattle.plan_commands.specs.NearReply.{IsCertificateIn, IsCertificateRefusal};
 ghost use Rattle.plan_commands.specs.TreeReply.{AreTreesIn, IsTreeRefusal};
+ghost use Rattle.plan_commands.specs.PricedReply.{IsPricedIn, IsPricedRefusal};
 ghost use Rattle.plan_commands.specs.AnyReply.{any_listed, IsAnyIn, IsAnyRefusal};
-ghost use Rattle.plan_commands.specs.Reply.{IsTaskIn, IsRefusal, IsTaskFile, IsRefusedTask, IsCertificateFile, IsRefusedCertificate, IsAnyFile, IsRefusedAny};
+ghost use Rattle.plan_commands.specs.Reply.{IsTaskIn, IsRefusal, IsTaskFile, IsRefusedTask, IsCertificateFile, IsRefusedCertificate, IsAnyFile, IsRefusedAny, IsPricedFile, IsRefusedPriced};
 ghost use Rattle.plan_commands.specs.Halts.{IfBadInput};
 
 use crate::any_certificate::{AnyCertificate, begins_with_cuts};
@@ -17,6 +18,7 @@ use crate::reply_text::{line_of_certificate_fault, line_of_fault, two_word_line}
 use certificate::{Certificate, read_certificate};
 use hold_limits::Task;
 use load_io::{Shelf, ShelfFault};
+use priced_certificate::{PricedCertificate, read_priced};
 use problem_text::read_task;
 use std::alloc::Global;
 use tree_certificate::{TreeCertificate, read_trees};
@@ -24,8 +26,12 @@ use tree_certificate::{TreeCertificate, read_trees};
 /// The greatest length of a task's file, in bytes.
 pub const LONGEST_TASK: usize = 1_048_576;
 
-/// The greatest length of a certificate's file, in bytes, whatever its evidence is.
+/// The greatest length of a file with a certificate of cuts or of trees, in bytes.
 pub const LONGEST_CERTIFICATE: usize = 805_306_368;
+
+/// The greatest length of a file with a certificate with prices, in bytes: 32,000 cuts of 4,300 bytes each, and the lines
+/// beside them.
+pub const LONGEST_PRICED: usize = 138_000_000;
 
 /// The refusal of a file that is too long.
 fn too_long(alloc: Global) -> Halt
@@ -115,6 +121,19 @@ fn any_of(alloc: Global, task: &Task, bytes: &[u8]) -> Result<AnyCertificate, Ha
     Ok(AnyCertificate::OfTrees(trees))
 }
 
+/// The certificate with prices that the bytes of a file spell.
+fn priced_of(alloc: Global, task: &Task, bytes: &[u8]) -> Result<PricedCertificate, Halt>
+    requires { length bytes.now ≤ longest_priced }
+    ensures read { IfOk result (IsPricedIn task.now bytes.now) }
+    ensures refused { IfErr result (λ halt. IfBadInput halt (IsPricedRefusal task.now bytes.now)) }
+    ensures unread { result ≢ Err Halt.ReadFault }
+{
+    match read_priced(alloc, task, bytes) {
+        Ok(certificate) => Ok(certificate),
+        Err(fault) => Err(Halt::BadInput(line_of_certificate_fault(alloc, fault)?)),
+    }
+}
+
 /// The task in a file.
 pub fn task_from<F: Shelf>(alloc: Global, shelf: &mut F, name: &str) -> Result<Task, Halt>
     ensures read { IfOk result (λ task. IfSome (F.files shelf.old) (λ files. IsTaskFile files name.now task)) }
@@ -164,4 +183,23 @@ pub fn any_from<F: Shelf>(
 {
     let bytes = bytes_from(alloc, shelf, name, LONGEST_CERTIFICATE)?;
     any_of(alloc, task, bytes.as_slice())
+}
+
+/// The certificate with prices in a file, for a task.
+pub fn priced_from<F: Shelf>(
+    alloc: Global,
+    shelf: &mut F,
+    task: &Task,
+    name: &str,
+) -> Result<PricedCertificate, Halt>
+    ensures read { IfOk result
+        (λ c. IfSome (F.files shelf.old) (λ files. IsPricedFile files name.now task.now c)) }
+    ensures refused { IfErr result (λ halt. IfBadInput halt
+        (λ line. IfSome (F.files shelf.old) (λ files. IsRefusedPriced files name.now task.now line))) }
+    ensures counted { result ≡ Err Halt.ReadFault → Rose (F.faults shelf.old) (F.faults shelf.new) }
+    ensures uncounted { result ≢ Err Halt.ReadFault → F.faults shelf.new ≡ F.faults shelf.old }
+    ensures same { F.files shelf.new ≡ F.files shelf.old }
+{
+    let bytes = bytes_from(alloc, shelf, name, LONGEST_PRICED)?;
+    priced_of(alloc, task, bytes.as_slice())
 }

@@ -15,8 +15,9 @@ ghost use Rattle.text_lines.specs.Lines.{text_of};
 
 use crate::arguments::{Command, USUAL_BUDGET};
 use crate::ending::{Halt, Outcome, Reply};
-use crate::files::{any_from, certificate_from, task_from};
+use crate::files::{any_from, certificate_from, priced_from, task_from};
 use crate::near_jobs::{has_good_evidence, judgement, placement};
+use crate::priced_jobs::{judgement_of_prices, placing_with_prices};
 use crate::reply_text::push_number_line;
 use crate::tree_jobs::{judgement_of_any, placing_by_trees};
 use base_words::NoMemory;
@@ -179,6 +180,15 @@ pub fn answer_to<F: Shelf, P: Placing>(
             let task = task_from(alloc, shelf, task)?;
             let certificate = any_from(alloc, shelf, &task, certificate)?;
             Ok(judgement_of_any(alloc, &task, &certificate)?)
+        }
+        Command::Priced { task, budget } => {
+            let task = task_from(alloc, shelf, task)?;
+            Ok(placing_with_prices(alloc, &task, budget)?)
+        }
+        Command::CheckPriced { task, certificate } => {
+            let task = task_from(alloc, shelf, task)?;
+            let certificate = priced_from(alloc, shelf, &task, certificate)?;
+            Ok(judgement_of_prices(alloc, &task, &certificate)?)
         }
         Command::Generate { number } => Ok(summary(alloc, number, placing)?),
     }

@@ -8,6 +8,7 @@ mod files;
 mod first_words;
 mod jobs;
 mod near_jobs;
+mod priced_jobs;
 mod printing;
 mod reply_text;
 mod spelled;

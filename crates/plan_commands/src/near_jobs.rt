@@ -16,6 +16,7 @@ use cert_checker::check;
 use certificate::Certificate;
 use hold_limits::{Item, Task};
 use placer::{Answer, Placing, write_answer};
+use priced_checker::PricedReject;
 use std::alloc::Global;
 
 fn outcome_of(answer: &Answer) -> Outcome
@@ -91,7 +92,7 @@ pub fn judgement(alloc: Global, task: &Task, certificate: &Certificate) -> Resul
         }),
         Err(reason) => Ok(Reply {
             outcome: Outcome::Rejected,
-            text: rejected_line(alloc, task, &reason)?,
+            text: rejected_line(alloc, task, &PricedReject::from(reason))?,
         }),
     }
 }

@@ -7,9 +7,9 @@ ghost use Rattle.text_lines.specs.Lines.{text_of};
 ghost use Rattle.certificate.specs.CertificateText.{path_line};
 
 use base_words::NoMemory;
-use cert_checker::Reject;
 use certificate::{CertFault, Claim, push_path};
 use hold_limits::{HoldFault, Path, Task, TaskFault};
+use priced_checker::PricedReject;
 use problem_text::TextFault;
 use std::alloc::Global;
 use telex::Builder;
@@ -146,17 +146,18 @@ fn named_path(alloc: Global, task: &Task, word: &[u8], path: &Path) -> Result<Ve
 }
 
 /// `REJECTED`, with the number of the reason, and with its place or the names of its path's positions.
-pub fn rejected_line(alloc: Global, task: &Task, reason: &Reject) -> Result<Vec<u8>, NoMemory>
+pub fn rejected_line(alloc: Global, task: &Task, reason: &PricedReject) -> Result<Vec<u8>, NoMemory>
     ensures { IfOk result (λ text. text.items ≡ rejected_text task.now reason.now) }
 {
     match reason {
-        Reject::NotAPlacement => word_line(alloc, b"REJECTED 1"),
-        Reject::CutOrder(at) => rejected_at(alloc, 2, *at),
-        Reject::CutNotViable(at) => rejected_at(alloc, 3, *at),
-        Reject::CutWeak(at) => rejected_at(alloc, 4, *at),
-        Reject::Nearer(path) => named_path(alloc, task, b"REJECTED 5", path),
-        Reject::Exists(path) => named_path(alloc, task, b"REJECTED 6", path),
-        Reject::MoreExpanded => word_line(alloc, b"REJECTED 7"),
+        PricedReject::NotAPlacement => word_line(alloc, b"REJECTED 1"),
+        PricedReject::CutOrder(at) => rejected_at(alloc, 2, *at),
+        PricedReject::CutNotViable(at) => rejected_at(alloc, 3, *at),
+        PricedReject::CutWeak(at) => rejected_at(alloc, 4, *at),
+        PricedReject::Nearer(path) => named_path(alloc, task, b"REJECTED 5", path),
+        PricedReject::Exists(path) => named_path(alloc, task, b"REJECTED 6", path),
+        PricedReject::MoreExpanded => word_line(alloc, b"REJECTED 7"),
+        PricedReject::Prices(at) => rejected_at(alloc, 8, *at),
     }
 }
 

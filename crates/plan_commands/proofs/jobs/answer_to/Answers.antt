@@ -1,7 +1,7 @@
 use Rattle.plan_commands.proofs.FileLemmas.{IfErr-from_residual}
 use Rattle.plan_commands.specs.AnyReply.{any_listed}
-use Rattle.plan_commands.proofs.AnswerLemmas.{bad-task, bad-checked_task, bad-certificate, bad-best_task, bad-task_of_any, bad-any, placed-answer, judged-answer, placed-by_trees-answer, any-judged-answer, summed-answer}
-use Rattle.plan_commands.proofs.ReplyLemmas.{placing-answered, judgement-answered, tree-placing-answered, any-judgement-answered, summary-answered}
+use Rattle.plan_commands.proofs.AnswerLemmas.{bad-task, bad-checked_task, bad-certificate, bad-best_task, bad-task_of_any, bad-any, bad-priced_task, bad-task_of_prices, bad-prices, placed-answer, judged-answer, placed-by_trees-answer, any-judged-answer, placed-with_prices-answer, prices-judged-answer, summed-answer}
+use Rattle.plan_commands.proofs.ReplyLemmas.{placing-answered, judgement-answered, tree-placing-answered, any-judgement-answered, priced-placing-answered, priced-judgement-answered, summary-answered}
 use Rattle.plan_commands.proofs.jobs.answer_to.Goals as goal
 
 pub returns-in_err-task-in-Place-clause-refused : goal.returns-in_err-task-in-Place-clause-refused
@@ -92,3 +92,45 @@ returns-in_ok-placing_by_trees-in-Best-clause-answers g c = tree-placing-answere
 
 pub returns-in_ok-judgement_of_any-in-CheckAny-clause-answers : goal.returns-in_ok-judgement_of_any-in-CheckAny-clause-answers
 returns-in_ok-judgement_of_any-in-CheckAny-clause-answers g c = any-judgement-answered _ _ _ _ c.in_ok-judgement_of_any-in-CheckAny.ensures
+
+-- Commands for certificates with prices --------------------------------------------------------
+
+pub returns-in_err-task-in-Priced-clause-refused : goal.returns-in_err-task-in-Priced-clause-refused
+returns-in_err-task-in-Priced-clause-refused g c =
+    let halt = c.in_err-task-in-Priced.field-0.0 in
+    rw c.in-Priced.is
+    (IfErr-from_residual c.from_residual-in_err-task-in-Priced.result halt _ c.from_residual-in_err-task-in-Priced.ensures.1
+    (bad-priced_task halt (g.F.Shelf.files c.args.shelf.now) c.in-Priced.task.now c.in-Priced.budget c.in_err-task-in-Priced.ensures.refused))
+
+pub returns-in_err-task-in-CheckPriced-clause-refused : goal.returns-in_err-task-in-CheckPriced-clause-refused
+returns-in_err-task-in-CheckPriced-clause-refused g c =
+    let halt = c.in_err-task-in-CheckPriced.field-0.0 in
+    rw c.in-CheckPriced.is
+    (IfErr-from_residual c.from_residual-in_err-task-in-CheckPriced.result halt _ c.from_residual-in_err-task-in-CheckPriced.ensures.1
+    (bad-task_of_prices halt (g.F.Shelf.files c.args.shelf.now) c.in-CheckPriced.task.now c.in-CheckPriced.certificate.now c.in_err-task-in-CheckPriced.ensures.refused))
+
+pub returns-in_err-certificate-in-CheckPriced-clause-refused : goal.returns-in_err-certificate-in-CheckPriced-clause-refused
+returns-in_err-certificate-in-CheckPriced-clause-refused g c =
+    let halt = c.in_err-certificate-in-CheckPriced.field-0.0 in
+    let refused = rw c.in_ok-task-in-CheckPriced.ensures.same at c.in_err-certificate-in-CheckPriced.ensures.refused in
+    rw c.in-CheckPriced.is
+    (IfErr-from_residual c.from_residual-in_err-certificate-in-CheckPriced.result halt _ c.from_residual-in_err-certificate-in-CheckPriced.ensures.1
+    (bad-prices halt (g.F.Shelf.files c.args.shelf.now) c.in-CheckPriced.task.now c.in-CheckPriced.certificate.now c.in_ok-task-in-CheckPriced.task c.in_ok-task-in-CheckPriced.ensures.read refused))
+
+pub returns-in_ok-placing_with_prices-in-Priced-clause-answered : goal.returns-in_ok-placing_with_prices-in-Priced-clause-answered
+returns-in_ok-placing_with_prices-in-Priced-clause-answered g c =
+    rw c.in-Priced.is
+    (placed-with_prices-answer (g.F.Shelf.files c.args.shelf.now) c.in-Priced.task.now c.in-Priced.budget c.in_ok-task-in-Priced.task _ _ c.in_ok-task-in-Priced.ensures.read c.in_ok-placing_with_prices-in-Priced.ensures)
+
+pub returns-in_ok-judgement_of_prices-in-CheckPriced-clause-answered : goal.returns-in_ok-judgement_of_prices-in-CheckPriced-clause-answered
+returns-in_ok-judgement_of_prices-in-CheckPriced-clause-answered g c =
+    let evidence = rw c.in_ok-task-in-CheckPriced.ensures.same at c.in_ok-certificate-in-CheckPriced.ensures.read in
+    rw c.in-CheckPriced.is
+    (prices-judged-answer (g.F.Shelf.files c.args.shelf.now) c.in-CheckPriced.task.now c.in-CheckPriced.certificate.now c.in_ok-task-in-CheckPriced.task c.in_ok-certificate-in-CheckPriced.certificate _ _
+    c.in_ok-task-in-CheckPriced.ensures.read evidence c.in_ok-judgement_of_prices-in-CheckPriced.ensures)
+
+pub returns-in_ok-placing_with_prices-in-Priced-clause-answers : goal.returns-in_ok-placing_with_prices-in-Priced-clause-answers
+returns-in_ok-placing_with_prices-in-Priced-clause-answers g c = priced-placing-answered _ _ _ _ c.in_ok-placing_with_prices-in-Priced.ensures
+
+pub returns-in_ok-judgement_of_prices-in-CheckPriced-clause-answers : goal.returns-in_ok-judgement_of_prices-in-CheckPriced-clause-answers
+returns-in_ok-judgement_of_prices-in-CheckPriced-clause-answers g c = priced-judgement-answered _ _ _ _ c.in_ok-judgement_of_prices-in-CheckPriced.ensures

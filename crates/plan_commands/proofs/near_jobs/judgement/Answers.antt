@@ -1,7 +1,8 @@
-use Rattle.std.proofs.Common.{refl, subst, sym}
+use Rattle.std.proofs.Common.{refl, subst, sym, ap, ◌∙◌}
 use Rattle.plan_commands.specs.declared.ending.Outcome.TheVariants.{Done, Rejected}
 use Rattle.plan_commands.specs.NearReply.{IsJudgement}
 use Rattle.plan_commands.specs.NearReply.IsJudgement.{good, rejected}
+use Rattle.plan_commands.specs.ReplyText.{rejected_text}
 use Rattle.plan_commands.proofs.JobLemmas.{good-true}
 use Rattle.plan_commands.proofs.near_jobs.judgement.Goals as goal
 
@@ -13,4 +14,6 @@ returns-in_ok-good_line-in-Ok c =
 
 pub returns-in_ok-rejected_line-in-Err : goal.returns-in_ok-rejected_line-in-Err
 returns-in_ok-rejected_line-in-Err c =
-    subst (IsJudgement c.args.task.now c.args.certificate.now Rejected) (sym c.in_ok-rejected_line-in-Err.ensures) (rejected c.in-Err.reason c.in-Err.ensures.refused)
+    let t = c.args.task.now in
+    let line = c.in_ok-rejected_line-in-Err.ensures ∙ ap (rejected_text t) c.from.ensures in
+    subst (IsJudgement t c.args.certificate.now Rejected) (sym line) (rejected c.in-Err.reason c.in-Err.ensures.refused)
