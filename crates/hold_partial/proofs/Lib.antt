@@ -9,5 +9,6 @@ pub mod LevelSteps
 pub mod ClosedLemmas
 pub mod SideLemmas
 pub mod KeptLemmas
+pub mod OpennessLemmas
 pub mod AheadLemmas
 pub mod OutlookLemmas

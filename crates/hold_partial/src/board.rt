@@ -395,6 +395,7 @@ impl<'a> Board<'a> {
 
     /// Whether some lateral difference in reach with the next container on the position is within the lateral limit of the
     /// hold, if it has one.
+    #[inline(always)]
     pub fn can_meet_lateral_limit_after(&self, position: u8) -> bool
         requires kept { IsKept self.now }
         requires short { length self.now.prefix.items < length self.now.task.now.items }

@@ -11,6 +11,7 @@ mod level;
 mod limit_table;
 mod loads;
 mod moves;
+mod openness;
 mod outlook;
 mod partial;
 mod position_table;
@@ -19,5 +20,6 @@ mod tables;
 
 pub use hold_reach::{RuleBroken, reach_laws};
 pub use moves::{advances, keep_first, move_to};
+pub use openness::OpenSets;
 pub use outlook::Outlook;
 pub use partial::Partial;

@@ -74,6 +74,7 @@ impl<'p, 'a> Outlook<'p, 'a> {
     }
 
     /// The reach with the next container on the position. None where there is none.
+    #[inline(always)]
     fn reach_on(&self, number: u8) -> Option<Span>
         requires { number < length self.now.task.hold.positions }
         ensures value { option_map (λ span. (span.low, span.high)) result
@@ -87,6 +88,7 @@ impl<'p, 'a> Outlook<'p, 'a> {
     }
 
     /// The bound of the prefix with the next container on the position, in ticks, where that is viable.
+    #[inline(always)]
     pub fn bound_on(&self, number: u8) -> Option<u64>
         requires { number < length self.now.task.hold.positions }
         ensures found { IfSome result (λ b. IsViable self.now.task (self.now.prefix ++ number ∷ [])

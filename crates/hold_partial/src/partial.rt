@@ -1,16 +1,19 @@
 //! The partial placement: a sound prefix of a task, one position more or one fewer at a time.
 
 ghost use Rattle.std.specs.Prelude.{◌≡◌, ◌↔◌, ◌<◌, ◌≤◌, ◌++◌, ◌∷◌, [], ℕ, Some, None, IfOk, IfErr, IfSome, IfNone, IsOk, length, slice_get, option_map};
+ghost use Rattle.std.specs.List.{AllZip};
 ghost use Rattle.std.specs.Result.{OnOk, OnErr};
 ghost use Rattle.hold_parts.specs.declared.parts.Item.{Item};
 ghost use Rattle.hold_limits.specs.BranchOrder.{ordered};
 ghost use Rattle.hold_limits.specs.Faults.{IsLawful};
 ghost use Rattle.hold_limits.specs.Placement.{IsSound};
 ghost use Rattle.hold_partial.specs.Placing.{placing_of};
-ghost use Rattle.hold_reach.specs.Reach.{falls, is_open, reach, wide_reach, lateral_reach, bound, wide_bound, IsViable};
+ghost use Rattle.hold_reach.specs.Reach.{falls, is_open, remaining, reach, wide_reach, lateral_reach, bound, wide_bound, IsViable};
 ghost use Rattle.hold_reach.specs.Rules.{limit_broken, rule_broken};
+ghost use Rattle.position_set.specs.Sets.{Stands};
 
 use crate::board::Board;
+use crate::openness::{OpenSets, open_sets};
 use crate::outlook::Outlook;
 use hold_limits::Task;
 use hold_reach::{Extent, RuleBroken, broken_limit, gap_to_ideal, meets_window};
@@ -76,6 +79,15 @@ impl<'a> Partial<'a> {
             → result ≡ is_open self.now.task self.now.prefix container position }
     {
         self.board.is_open(item as usize, position)
+    }
+
+    /// The positions that are open for each container that is left, in branch order.
+    pub fn open_sets(&self) -> OpenSets
+        ensures sets { AllZip (λ item set. Stands set (is_open self.now.task self.now.prefix item))
+            (remaining self.now.task self.now.prefix) result.items }
+        ensures count { length result.items ≡ length (remaining self.now.task self.now.prefix) }
+    {
+        open_sets(&self.board)
     }
 
     /// Whether a placed twin of the next container has a number of at least this one. Such a position may follow, and
