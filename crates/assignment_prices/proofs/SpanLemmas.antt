@@ -8,11 +8,8 @@ use Rattle.std.specs.List.{AllZip}
 use Rattle.hold_parts.specs.declared.parts.Item.{Item}
 use Rattle.hold_limits.specs.Problem.{Problem}
 use Rattle.hold_limits.specs.BranchOrder.{ordered}
-use Rattle.hold_limits.proofs.BranchOrderLemmas.{length-ordered}
 use Rattle.hold_reach.specs.Reach.{remaining}
-
-pub length-remaining : (t : Problem) (prefix : List ℕ) → length (remaining t prefix) ≡ length t.items - length prefix
-length-remaining t prefix = omega (arith, length-drop (length prefix) (ordered t.items), length-ordered t.items)
+pub use Rattle.hold_partial.proofs.OpennessLemmas.{length-remaining}
 
 pub rank-within : (t : Problem) (prefix : List ℕ) (at count : ℕ) → count ≡ length (remaining t prefix) → at < count → length prefix + at < length t.items
 rank-within t prefix at count one_each within = omega (arith, one_each, within, length-remaining t prefix)

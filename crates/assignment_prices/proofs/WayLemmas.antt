@@ -54,18 +54,22 @@ way-shorter t prefix q way item next sound rising is =
     last-unused : (t : Problem) (prefix : List ℕ) (q : ℕ) (a : Item) (p : ℕ) → IsOpen t (prefix ++ q ∷ []) a p → q ≢ p
     last-unused t prefix q a p may = All-contains (λ used. used ≢ p) (prefix ++ q ∷ []) q may.free.unused (Contains-push prefix q)
 
--- what the longer prefix allows, the prefix allows
-pub allows-shorter : (t : Problem) (prefix : List ℕ) (q : ℕ) (index : ℤ) → IsSound t (prefix ++ q ∷ []) → IsRising t (prefix ++ q ∷ []) → AllowsTightly t (prefix ++ q ∷ []) index → AllowsTightly t prefix index
-allows-shorter t prefix q index sound rising given =
+-- what the longer prefix allows, the prefix allows by a way that gives its next container the number
+pub allows-with : (t : Problem) (prefix : List ℕ) (q : ℕ) (index : ℤ) → IsSound t (prefix ++ q ∷ []) → IsRising t (prefix ++ q ∷ []) → AllowsTightly t (prefix ++ q ∷ []) index
+    → (rest : List ℕ) × IsWayFrom t prefix (q ∷ rest) × (index ≡ hold_index t prefix +ℤ moment_of_way t prefix (q ∷ rest))
+allows-with t prefix q index sound rising given =
     let next = next-of t prefix q sound in
     let way = given.0 in
     let left = remaining-next t prefix next.0 q next.1 in
     let chosen : moment_of_way t prefix (q ∷ way) ≡ placed_moment t.hold (next.0, q) +ℤ moment_of_way t (prefix ++ q ∷ []) way =
     ap (λ items. cost_of (placed_moment t.hold) items (q ∷ way)) left in
-    (q ∷ way, way-shorter t prefix q way next.0 next.1 sound rising given.1, same_sum _ _ _ _ _ _ given.2 (hold_index-next t prefix next.0 q next.1) chosen)
+    (way, way-shorter t prefix q way next.0 next.1 sound rising given.1, same_sum _ _ _ _ _ _ given.2 (hold_index-next t prefix next.0 q next.1) chosen)
   where
     same_sum : (sum start longer here rest chosen : ℤ) → sum ≡ longer +ℤ rest → longer ≡ start +ℤ here → chosen ≡ here +ℤ rest → sum ≡ start +ℤ chosen
     same_sum sum start longer here rest chosen is more all = omega (arith, ints)
+
+pub allows-shorter : (t : Problem) (prefix : List ℕ) (q : ℕ) (index : ℤ) → IsSound t (prefix ++ q ∷ []) → IsRising t (prefix ++ q ∷ []) → AllowsTightly t (prefix ++ q ∷ []) index → AllowsTightly t prefix index
+allows-shorter t prefix q index sound rising given = let way = allows-with t prefix q index sound rising given in (q ∷ way.0, way.1, way.2)
 
 -- Complete prefixes -----------------------------------------------------------------------------
 

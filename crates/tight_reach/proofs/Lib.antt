@@ -1,3 +1,3 @@
-mod Crossing
-mod OrdinaryLemmas
+pub mod Crossing
+pub mod OrdinaryLemmas
 mod ReachedLemmas

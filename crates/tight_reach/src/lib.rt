@@ -6,4 +6,5 @@ mod candidates;
 mod ends;
 mod tight_reach;
 
+pub use candidates::{Candidates, Influences, candidates_of, influences_of};
 pub use tight_reach::{prices_of, tight};
