@@ -1,9 +1,9 @@
 -- what a best-first search knows when it ends
 use Rattle.std.proofs.Common.{refl, ◌≡◌, ◌≢◌, ◌⊎◌, inl, inr, ⊎_elim, ℕ, ◌+◌, ◌<◌, ◌≤◌, Bool, true, List, [], ◌∷◌, ◌++◌, length, Some, None, sym, ap, ◌∙◌, subst, arith, append_assoc, append-nil, length-append, nat_lt, nat_cmp, cond, false}
 use Rattle.std.proofs.lemmas.Bool.Decides.{nat_tests}
-use Rattle.std.proofs.lemmas.List.Elements.{All-cons, All-head, All-contains, All-weaker, All-filter, All-contains_itself, filter_passes, Contains-append_left, Contains-append_right, Contains-append_cases}
+use Rattle.std.proofs.lemmas.List.Elements.{All-cons, All-contains, All-weaker, All-filter, All-contains_itself, filter_passes, Contains-append_left, Contains-append_right, Contains-append_cases}
 use Rattle.std.proofs.lemmas.List.Kept.{AllPairs-cons, AllPairs-filter}
-use Rattle.std.proofs.lemmas.List.Sorted.{IsPermutation-sym, IsPermutation-map, All-permutation, Contains-permutation}
+use Rattle.std.proofs.lemmas.List.Sorted.{IsPermutation-sym, IsPermutation-map, Contains-permutation}
 use Rattle.std.specs.Prelude.{All, AllPairs, Contains, IsPermutation, IsSorted, MatchOption}
 use Rattle.std.specs.List.{filter}
 use Rattle.std.specs.Cmp.Lexicographic.{slice_cmp}
@@ -24,9 +24,9 @@ use Rattle.best_first.specs.declared.found.Found.{Found}
 use Rattle.best_first.specs.Bounds.{AreBounds}
 use Rattle.best_first.specs.Keys.{prefixes}
 use Rattle.best_first.specs.Promising.{IsPromising, IsPromisingAndIncomplete, HasNoBound, HasPromisingParent, IsLeft, AreMoreThan, IsFoundFor}
-use Rattle.best_first.specs.Search.{IsPrefix, known, IsSearched}
+use Rattle.best_first.specs.Search.{IsWaiting, known, IsSearched}
 use Rattle.best_first.proofs.CountLemmas.{Contains-cons, Contains-later, Contains-cons_cases, Contains-nil, AllPairs-append, All-from_contains, apart-append, length-within, different-permutation, rising-sorted, last-or_none}
-use Rattle.best_first.proofs.BoundLemmas.{front-at_most, best_or_none, one_best, best-bound, promising-none}
+use Rattle.best_first.proofs.BoundLemmas.{at_most-more, front-at_most, best-bound}
 use Rattle.best_first.proofs.SearchLemmas.{Contains-prefixes, key-of_prefix}
 
 -- Filters ---------------------------------------------------------------------------------------
@@ -67,8 +67,8 @@ Waits : List Key → List ℕ → Type 0
 Waits queue p = (k : Key) × Contains queue k × Extends k.1 p
 
 -- a search has ended: these were taken, and the rest waits beside the path that is claimed, if one is
-pub record IsEnd (t : Problem) (HasBound : List ℕ → ℕ → Type 0) (taken : List (List ℕ)) (queue rest : List Key) (turned : List (List ℕ)) : Type 0 where
-  pub searched : IsSearched t HasBound taken queue turned
+pub record IsEnd (t : Problem) (HasBound MayWait : List ℕ → ℕ → Type 0) (taken : List (List ℕ)) (queue rest : List Key) (turned : List (List ℕ)) : Type 0 where
+  pub searched : IsSearched t HasBound MayWait taken queue turned
   -- what waits and leaves containers is of the rest
   pub into : (p : List ℕ) → Contains (prefixes queue) p → IsIncomplete t p → Contains (prefixes rest) p
   pub from : (p : List ℕ) → Contains (prefixes rest) p → Contains (prefixes queue) p
@@ -76,11 +76,11 @@ pub record IsEnd (t : Problem) (HasBound : List ℕ → ℕ → Type 0) (taken :
   -- what is promising and leaves containers was taken
   pub promising : (p : List ℕ) → IsPromising t HasBound p → IsIncomplete t p → Contains taken p
 
-module _ (t : Problem) (HasBound : List ℕ → ℕ → Type 0) (laws : AreBounds t HasBound) where
+module _ (t : Problem) (HasBound MayWait : List ℕ → ℕ → Type 0) (laws : AreBounds t HasBound MayWait) where
   -- The frontier --------------------------------------------------------------------------------
 
   -- what is known and has a bound has been taken, or waits
-  taken-or_waits : (taken : List (List ℕ)) (queue : List Key) (turned : List (List ℕ)) (p : List ℕ) (b : ℕ) → IsSearched t HasBound taken queue turned → HasBound p b → Contains (known taken queue turned) p
+  taken-or_waits : (taken : List (List ℕ)) (queue : List Key) (turned : List (List ℕ)) (p : List ℕ) (b : ℕ) → IsSearched t HasBound MayWait taken queue turned → HasBound p b → Contains (known taken queue turned) p
       → Contains taken p ⊎ ((k : Key) × Contains queue k × (k.1 ≡ p))
   taken-or_waits taken queue turned p b searched is inside = ⊎_elim
       (λ (bounded : Contains (taken ++ prefixes queue) p). ⊎_elim
@@ -91,14 +91,14 @@ module _ (t : Problem) (HasBound : List ℕ → ℕ → Type 0) (laws : AreBound
       (Contains-append_cases (taken ++ prefixes queue) turned p inside)
 
   -- a prefix with a bound that goes on after one that was taken has been taken, or a front of it waits
-  goes-on : (taken : List (List ℕ)) (queue : List Key) (turned : List (List ℕ)) (front rest : List ℕ) (b : ℕ) → IsSearched t HasBound taken queue turned → Contains taken front → HasBound (front ++ rest) b
+  goes-on : (taken : List (List ℕ)) (queue : List Key) (turned : List (List ℕ)) (front rest : List ℕ) (b : ℕ) → IsSearched t HasBound MayWait taken queue turned → Contains taken front → HasBound (front ++ rest) b
       → Contains taken (front ++ rest) ⊎ Waits queue (front ++ rest)
   unfolding Waits
   goes-on taken queue turned front [] b searched inside is = inl (subst (Contains taken) (sym (append-nil front)) inside)
   goes-on taken queue turned front (q ∷ rest) b searched inside is =
       let joined : front ++ (q ∷ rest) ≡ (front ++ q ∷ []) ++ rest = sym (append_assoc front (q ∷ []) rest) in
       let whole : HasBound ((front ++ q ∷ []) ++ rest) b = subst (λ p. HasBound p b) joined is in
-      let here = front-at_most t HasBound laws (front ++ q ∷ []) rest b whole in
+      let here = front-at_most t HasBound MayWait laws (front ++ q ∷ []) rest b whole in
       ⊎_elim
       (λ (next : Contains taken (front ++ q ∷ [])).
       subst (λ p. Contains taken p ⊎ Waits queue p) (sym joined) (goes-on taken queue turned (front ++ q ∷ []) rest b searched next whole))
@@ -107,28 +107,28 @@ module _ (t : Problem) (HasBound : List ℕ → ℕ → Type 0) (laws : AreBound
       (taken-or_waits taken queue turned (front ++ q ∷ []) here.0 searched here.1 (searched.children front q inside (laws.viable (front ++ q ∷ []) here.0 here.1)))
 
   -- each prefix with a bound has been taken, or a front of it waits
-  frontier : (taken : List (List ℕ)) (queue : List Key) (turned : List (List ℕ)) (p : List ℕ) (b : ℕ) → IsSearched t HasBound taken queue turned → HasBound p b → Contains taken p ⊎ Waits queue p
+  frontier : (taken : List (List ℕ)) (queue : List Key) (turned : List (List ℕ)) (p : List ℕ) (b : ℕ) → IsSearched t HasBound MayWait taken queue turned → HasBound p b → Contains taken p ⊎ Waits queue p
   unfolding Waits
   frontier taken queue turned p b searched is =
-      let here = front-at_most t HasBound laws [] p b is in
+      let here = front-at_most t HasBound MayWait laws [] p b is in
       ⊎_elim
       (λ (inside : Contains taken []). goes-on taken queue turned [] p b searched inside is)
       (λ (waits : (k : Key) × Contains queue k × (k.1 ≡ [])). inr (waits.0, waits.1, (p, ap (λ front. front ++ p) (sym waits.2))))
       (taken-or_waits taken queue turned [] here.0 searched here.1 (searched.begun (laws.viable [] here.0 here.1)))
 
   -- a front that waits has a key that is at most that of the prefix
-  waits-below : (queue : List Key) (k : Key) (p : List ℕ) (b : ℕ) → All (IsPrefix HasBound) queue → Contains queue k → Extends k.1 p → HasBound p b → IsAtMost k (b, p)
+  waits-below : (queue : List Key) (k : Key) (p : List ℕ) (b : ℕ) → All (IsWaiting MayWait) queue → Contains queue k → Extends k.1 p → HasBound p b → IsAtMost k (b, p)
   waits-below queue k p b waiting inside extends is =
-      let own = All-contains (IsPrefix HasBound) queue k waiting inside in
-      let front = front-at_most t HasBound laws k.1 extends.0 b (subst (λ p. HasBound p b) extends.1 is) in
-      let same : front.0 ≡ k.0 = laws.one k.1 front.0 k.0 front.1 own in
-      subst (λ p. IsAtMost k (b, p)) (sym extends.1) (subst (λ n. IsAtMost (n, k.1) (b, k.1 ++ extends.0)) same front.2)
+      let own = All-contains (IsWaiting MayWait) queue k waiting inside in
+      let front = front-at_most t HasBound MayWait laws k.1 extends.0 b (subst (λ p. HasBound p b) extends.1 is) in
+      subst (λ p. IsAtMost k (b, p)) (sym extends.1)
+      (IsAtMost-trans k (front.0, k.1) (b, k.1 ++ extends.0) (at_most-more k.0 front.0 k.1 (laws.below k.1 k.0 front.0 own front.1)) front.2)
 
   -- where a path is the best, something waits that is at most it
-  best-waits : (taken : List (List ℕ)) (queue : List Key) (turned : List (List ℕ)) (best : List ℕ) → IsSearched t HasBound taken queue turned → IsBest t best → (k : Key) × Contains queue k × IsAtMost k (key t best)
+  best-waits : (taken : List (List ℕ)) (queue : List Key) (turned : List (List ℕ)) (best : List ℕ) → IsSearched t HasBound MayWait taken queue turned → IsBest t best → (k : Key) × Contains queue k × IsAtMost k (key t best)
   unfolding Waits
   best-waits taken queue turned best searched is =
-      let bounded = best-bound t HasBound laws best is in
+      let bounded = best-bound t HasBound MayWait laws best is in
       ⊎_elim
       (λ (inside : Contains taken best).
       let short = All-contains (IsIncomplete t) taken best searched.incomplete inside in
@@ -140,7 +140,7 @@ module _ (t : Problem) (HasBound : List ℕ → ℕ → Type 0) (laws : AreBound
   -- What is promising ---------------------------------------------------------------------------
 
   -- what was taken is promising
-  pub taken-promising : (taken : List (List ℕ)) (queue : List Key) (turned : List (List ℕ)) → IsSearched t HasBound taken queue turned → (p : List ℕ) → Contains taken p → IsPromising t HasBound p
+  pub taken-promising : (taken : List (List ℕ)) (queue : List Key) (turned : List (List ℕ)) → IsSearched t HasBound MayWait taken queue turned → (p : List ℕ) → Contains taken p → IsPromising t HasBound p
   taken-promising taken queue turned searched p inside =
       let here = All-contains (λ p. (b : ℕ) × HasBound p b) taken p searched.bounded inside in
       record {
@@ -153,67 +153,69 @@ module _ (t : Problem) (HasBound : List ℕ → ℕ → Type 0) (laws : AreBound
             waits.2;
       }
 
-  -- where something waits, something promising does
-  waiting-promising : (taken : List (List ℕ)) (k : Key) (rest : List Key) (turned : List (List ℕ)) → IsSearched t HasBound taken (k ∷ rest) turned → (e : Key) × Contains (k ∷ rest) e × IsPromising t HasBound e.1
-  waiting-promising taken k rest turned searched = ⊎_elim
-      (λ (found : (best : List ℕ) × IsBest t best).
-      let waits = best-waits taken (k ∷ rest) turned found.0 searched found.1 in (
-        waits.0,
-        waits.1,
-        record {
-          bound = waits.0.0;
-          is = All-contains (IsPrefix HasBound) (k ∷ rest) waits.0 searched.waiting waits.1;
-          below = λ best is. subst (λ p. IsAtMost waits.0 (key t p)) (one_best t found.0 best found.1 is) waits.2;
-        },
-      ))
-      (λ (none : HasNoPlacement t).
-      (k, Contains-cons k rest, promising-none t HasBound laws k.1 k.0 none (All-head (IsPrefix HasBound) k rest searched.waiting)))
-      (best_or_none t)
+  -- nothing that waits comes before the least
+  first-least : (queue rest : List Key) (k : Key) → IsPermutation queue (k ∷ rest) → All (λ e. IsAtMost k e) rest → (e : Key) → Contains queue e → IsAtMost k e
+  first-least queue rest k moved least e inside = ⊎_elim
+      (λ (is : k ≡ e). subst (λ f. IsAtMost k f) is (IsAtMost-refl k))
+      (λ (later : Contains rest e). All-contains (λ f. IsAtMost k f) rest e least later)
+      (Contains-cons_cases k rest e (Contains-permutation queue (k ∷ rest) e moved inside))
+
+  -- the least that waits is promising, where it waits with its own bound
+  least-promising : (taken : List (List ℕ)) (queue rest : List Key) (turned : List (List ℕ)) (k : Key) → IsSearched t HasBound MayWait taken queue turned → HasBound k.1 k.0 → IsPermutation queue (k ∷ rest) → All (λ e. IsAtMost k e) rest
+      → IsPromising t HasBound k.1
+  least-promising taken queue rest turned k searched own moved least = record {
+    bound = k.0;
+    is = own;
+    below = λ best is.
+        let waits = best-waits taken queue turned best searched is in
+        IsAtMost-trans k waits.0 (key t best) (first-least queue rest k moved least waits.0 waits.1) waits.2;
+  }
 
   -- what is taken or waits is no prefix twice
-  bounded-different : (taken : List (List ℕ)) (queue : List Key) (turned : List (List ℕ)) → IsSearched t HasBound taken queue turned → AllPairs (λ p q. p ≢ q) (taken ++ prefixes queue)
+  bounded-different : (taken : List (List ℕ)) (queue : List Key) (turned : List (List ℕ)) → IsSearched t HasBound MayWait taken queue turned → AllPairs (λ p q. p ≢ q) (taken ++ prefixes queue)
   bounded-different taken queue turned searched = AllPairs-front (λ p q. p ≢ q) (taken ++ prefixes queue) turned searched.different
 
-  taken-different : (taken : List (List ℕ)) (queue : List Key) (turned : List (List ℕ)) → IsSearched t HasBound taken queue turned → AllPairs (λ p q. p ≢ q) taken
+  taken-different : (taken : List (List ℕ)) (queue : List Key) (turned : List (List ℕ)) → IsSearched t HasBound MayWait taken queue turned → AllPairs (λ p q. p ≢ q) taken
   taken-different taken queue turned searched = AllPairs-front (λ p q. p ≢ q) taken (prefixes queue) (bounded-different taken queue turned searched)
 
-  -- more is promising than was taken, where something waits
-  pub more-promising : (taken : List (List ℕ)) (queue : List Key) (turned : List (List ℕ)) → IsSearched t HasBound taken queue turned → queue ≢ [] → AreMoreThan (IsPromising t HasBound) (length taken)
-  more-promising taken [] turned searched some = absurd (some refl)
-  more-promising taken (k ∷ rest) turned searched some =
-      let promising = waiting-promising taken k rest turned searched in
-      let waits = Contains-prefixes (k ∷ rest) promising.0 promising.1 in
-      record {
-        lists = promising.0.1 ∷ taken;
-        different = AllPairs-cons (λ p q. p ≢ q) promising.0.1 taken
-            (All-from_contains (λ p. promising.0.1 ≢ p) taken
-            (λ p inside same. apart-append taken (prefixes (k ∷ rest)) promising.0.1 (bounded-different taken (k ∷ rest) turned searched) (subst (Contains taken) (sym same) inside) waits))
-            (taken-different taken (k ∷ rest) turned searched);
-        of_kind = All-cons (IsPromising t HasBound) promising.0.1 taken promising.2 (All-from_contains (IsPromising t HasBound) taken (taken-promising taken (k ∷ rest) turned searched));
-        more = omega arith;
-      }
+  -- more is promising than was taken, where the least waits with its own bound
+  pub more-promising : (taken : List (List ℕ)) (queue rest : List Key) (turned : List (List ℕ)) (k : Key) → IsSearched t HasBound MayWait taken queue turned → HasBound k.1 k.0 → IsPermutation queue (k ∷ rest) → All (λ e. IsAtMost k e) rest
+      → AreMoreThan (IsPromising t HasBound) (length taken)
+  more-promising taken queue rest turned k searched own moved least = record {
+    lists = k.1 ∷ taken;
+    different = AllPairs-cons (λ p q. p ≢ q) k.1 taken
+        (All-from_contains (λ p. k.1 ≢ p) taken
+        (λ p inside same. apart-append taken (prefixes queue) k.1 (bounded-different taken queue turned searched) (subst (Contains taken) (sym same) inside) waits))
+        (taken-different taken queue turned searched);
+    of_kind = All-cons (IsPromising t HasBound) k.1 taken (least-promising taken queue rest turned k searched own moved least)
+        (All-from_contains (IsPromising t HasBound) taken (taken-promising taken queue turned searched));
+    more = omega arith;
+  }
+    where
+      waits : Contains (prefixes queue) k.1
+      waits = Contains-prefixes queue k (Contains-permutation (k ∷ rest) queue k (IsPermutation-sym queue (k ∷ rest) moved) (Contains-cons k rest))
 
   -- Nothing waits -----------------------------------------------------------------------------
 
-  none-waits : (taken : List (List ℕ)) (turned : List (List ℕ)) → IsSearched t HasBound taken [] turned → (p : List ℕ) (b : ℕ) → HasBound p b → Contains taken p
+  none-waits : (taken : List (List ℕ)) (turned : List (List ℕ)) → IsSearched t HasBound MayWait taken [] turned → (p : List ℕ) (b : ℕ) → HasBound p b → Contains taken p
   unfolding Waits
   none-waits taken turned searched p b is = ⊎_elim
       (λ (inside : Contains taken p). inside)
       (λ (waits : Waits [] p). absurd (Contains-nil waits.0 waits.1))
       (frontier taken [] turned p b searched is)
 
-  pub none-admissible : (taken : List (List ℕ)) (turned : List (List ℕ)) → IsSearched t HasBound taken [] turned → HasNoPlacement t
+  pub none-admissible : (taken : List (List ℕ)) (turned : List (List ℕ)) → IsSearched t HasBound MayWait taken [] turned → HasNoPlacement t
   none-admissible taken turned searched path admissible =
       let best = best_exists t path admissible in
-      let inside = none-waits taken turned searched best.0 (distance t best.0) (best-bound t HasBound laws best.0 best.1) in
+      let inside = none-waits taken turned searched best.0 (distance t best.0) (best-bound t HasBound MayWait laws best.0 best.1) in
       let short = All-contains (IsIncomplete t) taken best.0 searched.incomplete inside in
       absurd (omega (arith, short, best.1.admissible.complete))
 
-  pub none-at_most : (taken : List (List ℕ)) (turned : List (List ℕ)) → IsSearched t HasBound taken [] turned → AreAtMost (IsPromising t HasBound) (length taken)
+  pub none-at_most : (taken : List (List ℕ)) (turned : List (List ℕ)) → IsSearched t HasBound MayWait taken [] turned → AreAtMost (IsPromising t HasBound) (length taken)
   none-at_most taken turned searched lists different promising =
       length-within lists taken different (All-weaker (IsPromising t HasBound) (Contains taken) (λ p is. none-waits taken turned searched p is.bound is.is) lists promising)
 
-  pub none-end : (taken : List (List ℕ)) (turned : List (List ℕ)) → IsSearched t HasBound taken [] turned → IsEnd t HasBound taken [] [] turned
+  pub none-end : (taken : List (List ℕ)) (turned : List (List ℕ)) → IsSearched t HasBound MayWait taken [] turned → IsEnd t HasBound MayWait taken [] [] turned
   none-end taken turned searched = record {
     searched = searched;
     into = λ p inside short. inside;
@@ -224,24 +226,14 @@ module _ (t : Problem) (HasBound : List ℕ → ℕ → Type 0) (laws : AreBound
 
   -- The best path waits first -------------------------------------------------------------------
 
-  -- nothing that waits comes before the least
-  first-least : (queue rest : List Key) (k : Key) → IsPermutation queue (k ∷ rest) → All (λ e. IsAtMost k e) rest → (e : Key) → Contains queue e → IsAtMost k e
-  first-least queue rest k moved least e inside = ⊎_elim
-      (λ (is : k ≡ e). subst (λ f. IsAtMost k f) is (IsAtMost-refl k))
-      (λ (later : Contains rest e). All-contains (λ f. IsAtMost k f) rest e least later)
-      (Contains-cons_cases k rest e (Contains-permutation queue (k ∷ rest) e moved inside))
-
-  module _ (taken : List (List ℕ)) (queue rest : List Key) (turned : List (List ℕ)) (k : Key) (searched : IsSearched t HasBound taken queue turned) (moved : IsPermutation queue (k ∷ rest))
+  module _ (taken : List (List ℕ)) (queue rest : List Key) (turned : List (List ℕ)) (k : Key) (searched : IsSearched t HasBound MayWait taken queue turned) (own : HasBound k.1 k.0) (moved : IsPermutation queue (k ∷ rest))
       (least : All (λ e. IsAtMost k e) rest) (complete : length k.1 ≡ length t.items) where
-    first-is : HasBound k.1 k.0
-    first-is = All-head (IsPrefix HasBound) k rest (All-permutation (IsPrefix HasBound) queue (k ∷ rest) moved searched.waiting)
-
     first-key : key t k.1 ≡ k
-    first-key = ap (λ n. (n, k.1)) (laws.one k.1 (distance t k.1) k.0 (laws.complete k.1 (laws.viable k.1 k.0 first-is) complete) first-is)
+    first-key = ap (λ n. (n, k.1)) (laws.one k.1 (distance t k.1) k.0 (laws.complete k.1 (laws.viable k.1 k.0 own) complete) own)
 
     pub first-best : IsBest t k.1
     first-best = record {
-      admissible = IsAdmissible-from_viable t k.1 complete (laws.viable k.1 k.0 first-is);
+      admissible = IsAdmissible-from_viable t k.1 complete (laws.viable k.1 k.0 own);
       least = λ other admissible.
           let best = best_exists t other admissible in
           let waits = best-waits taken queue turned best.0 searched best.1 in
@@ -279,7 +271,7 @@ module _ (t : Problem) (HasBound : List ℕ → ℕ → Type 0) (laws : AreBound
     moved_prefixes : IsPermutation (prefixes queue) (k.1 ∷ prefixes rest)
     moved_prefixes = IsPermutation-map (λ (e : Key). e.1) queue (k ∷ rest) moved
 
-    pub first-end : IsEnd t HasBound taken queue rest turned
+    pub first-end : IsEnd t HasBound MayWait taken queue rest turned
     first-end = record {
       searched = searched;
       into = λ p inside short. ⊎_elim
@@ -297,8 +289,8 @@ module _ (t : Problem) (HasBound : List ℕ → ℕ → Type 0) (laws : AreBound
 
 -- What is found ---------------------------------------------------------------------------------
 
-module _ (t : Problem) (HasBound : List ℕ → ℕ → Type 0) (laws : AreBounds t HasBound) (taken : List (List ℕ)) (queue rest : List Key) (turned cuts : List (List ℕ))
-    (end : IsEnd t HasBound taken queue rest turned) (moved : IsPermutation (turned ++ incomplete_of t rest) cuts) (sorted : IsSorted (slice_cmp nat_cmp) cuts) where
+module _ (t : Problem) (HasBound MayWait : List ℕ → ℕ → Type 0) (laws : AreBounds t HasBound MayWait) (taken : List (List ℕ)) (queue rest : List Key) (turned cuts : List (List ℕ))
+    (end : IsEnd t HasBound MayWait taken queue rest turned) (moved : IsPermutation (turned ++ incomplete_of t rest) cuts) (sorted : IsSorted (slice_cmp nat_cmp) cuts) where
   of_known : (p : List ℕ) → Contains (prefixes queue) p → Contains (known taken queue turned) p
   of_known p inside = Contains-append_left (taken ++ prefixes queue) turned p (Contains-append_right taken (prefixes queue) p inside)
 
@@ -309,7 +301,7 @@ module _ (t : Problem) (HasBound : List ℕ → ℕ → Type 0) (laws : AreBound
         some.0,
         some.1,
         some.2,
-        taken-promising t HasBound laws taken queue turned end.searched some.0
+        taken-promising t HasBound MayWait laws taken queue turned end.searched some.0
             (end.searched.parents some.0 some.1 (subst (Contains (known taken queue turned)) some.2 inside)),
       ))
       (last-or_none p)
@@ -331,9 +323,9 @@ module _ (t : Problem) (HasBound : List ℕ → ℕ → Type 0) (laws : AreBound
       let waits : Contains (prefixes queue) p = end.from p from.0 in
       let found = key-of_prefix queue p waits in
       record {
-        viable = subst (IsViable t) found.2 (laws.viable found.0.1 found.0.0 (All-contains (IsPrefix HasBound) queue found.0 end.searched.waiting found.1));
+        viable = subst (IsViable t) found.2 (laws.waiting found.0.1 found.0.0 (All-contains (IsWaiting MayWait) queue found.0 end.searched.waiting found.1));
         incomplete = short;
-        unpromising = λ promising. apart-append taken (prefixes queue) p (bounded-different t HasBound laws taken queue turned end.searched) (end.promising p promising short) waits;
+        unpromising = λ promising. apart-append taken (prefixes queue) p (bounded-different t HasBound MayWait laws taken queue turned end.searched) (end.promising p promising short) waits;
         reached = reached p (of_known p waits);
       }
 
@@ -356,7 +348,7 @@ module _ (t : Problem) (HasBound : List ℕ → ℕ → Type 0) (laws : AreBound
   left-cut p left = Contains-permutation (turned ++ incomplete_of t rest) cuts p moved
       (⊎_elim
       (λ (bounded : Contains (taken ++ prefixes queue) p). ⊎_elim
-      (λ (inside : Contains taken p). absurd (left.unpromising (taken-promising t HasBound laws taken queue turned end.searched p inside)))
+      (λ (inside : Contains taken p). absurd (left.unpromising (taken-promising t HasBound MayWait laws taken queue turned end.searched p inside)))
       (λ (inside : Contains (prefixes queue) p). Contains-append_right turned (incomplete_of t rest) p
       (kept (λ (q : List ℕ). nat_lt (length q) (length t.items)) (prefixes rest) p (end.into p inside left.incomplete) (is-short (length p) (length t.items) left.incomplete)))
       (Contains-append_cases taken (prefixes queue) p bounded))
@@ -377,9 +369,9 @@ module _ (t : Problem) (HasBound : List ℕ → ℕ → Type 0) (laws : AreBound
   expanded-are : AreExactly (IsPromisingAndIncomplete t HasBound) (length taken)
   expanded-are = record {
     lists = taken;
-    different = taken-different t HasBound laws taken queue turned end.searched;
+    different = taken-different t HasBound MayWait laws taken queue turned end.searched;
     of_kind = All-from_contains (IsPromisingAndIncomplete t HasBound) taken (λ p inside. record {
-      promising = taken-promising t HasBound laws taken queue turned end.searched p inside;
+      promising = taken-promising t HasBound MayWait laws taken queue turned end.searched p inside;
       incomplete = All-contains (IsIncomplete t) taken p end.searched.incomplete inside;
     });
     every = λ p is. end.promising p is.promising is.incomplete;
@@ -405,31 +397,31 @@ pub record IsMade (queue : List Key) (turned : List (List ℕ)) (complete number
   pub sorted : IsSorted (slice_cmp nat_cmp) (paths_of found.cuts.items)
   pub expanded : found.expanded ≡ number
 
-module _ (t : Problem) (HasBound : List ℕ → ℕ → Type 0) (laws : AreBounds t HasBound) (taken : List (List ℕ)) (turned : List (List ℕ)) where
+module _ (t : Problem) (HasBound MayWait : List ℕ → ℕ → Type 0) (laws : AreBounds t HasBound MayWait) (taken : List (List ℕ)) (turned : List (List ℕ)) where
   -- nothing waits
-  pub none-found : (queue : List Key) (complete : ℕ) (found : Found) → IsSearched t HasBound taken [] turned → queue ≡ [] → claimed found.claim ≡ None → IsMade queue turned complete (length taken) found → IsFoundFor t HasBound found
+  pub none-found : (queue : List Key) (complete : ℕ) (found : Found) → IsSearched t HasBound MayWait taken [] turned → queue ≡ [] → claimed found.claim ≡ None → IsMade queue turned complete (length taken) found → IsFoundFor t HasBound found
   none-found queue complete found searched empty claim made =
-      end-found t HasBound laws taken [] [] turned (paths_of found.cuts.items) (none-end t HasBound laws taken turned searched)
+      end-found t HasBound MayWait laws taken [] [] turned (paths_of found.cuts.items) (none-end t HasBound MayWait laws taken turned searched)
       (subst (λ q. IsPermutation (turned ++ filter (λ p. nat_lt (length p) complete) (prefixes q)) (paths_of found.cuts.items)) empty made.kept)
       made.sorted found
-      (subst (λ o. MatchOption o (HasNoPlacement t) (IsBest t)) (sym claim) (none-admissible t HasBound laws taken turned searched))
+      (subst (λ o. MatchOption o (HasNoPlacement t) (IsBest t)) (sym claim) (none-admissible t HasBound MayWait laws taken turned searched))
       refl made.expanded
 
-  pub none-enough : (budget : ℕ) → IsSearched t HasBound taken [] turned → length taken ≤ budget → AreAtMost (IsPromising t HasBound) budget
-  none-enough budget searched within lists different promising = omega (arith, none-at_most t HasBound laws taken turned searched lists different promising, within)
+  pub none-enough : (budget : ℕ) → IsSearched t HasBound MayWait taken [] turned → length taken ≤ budget → AreAtMost (IsPromising t HasBound) budget
+  none-enough budget searched within lists different promising = omega (arith, none-at_most t HasBound MayWait laws taken turned searched lists different promising, within)
 
   -- the least that waits is complete
-  pub first-found : (queue rest : List Key) (k : Key) (complete : ℕ) (found : Found) → IsSearched t HasBound taken queue turned → IsPermutation queue (k ∷ rest) → All (λ e. IsAtMost k e) rest → length k.1 ≡ complete
+  pub first-found : (queue rest : List Key) (k : Key) (complete : ℕ) (found : Found) → IsSearched t HasBound MayWait taken queue turned → HasBound k.1 k.0 → IsPermutation queue (k ∷ rest) → All (λ e. IsAtMost k e) rest → length k.1 ≡ complete
       → complete ≡ length t.items → claimed found.claim ≡ Some k.1 → IsMade rest turned complete (length taken) found → IsFoundFor t HasBound found
-  first-found queue rest k complete found searched moved least all of_items claim made =
+  first-found queue rest k complete found searched own moved least all of_items claim made =
       let whole = all ∙ of_items in
-      end-found t HasBound laws taken queue rest turned (paths_of found.cuts.items) (first-end t HasBound laws taken queue rest turned k searched moved least whole)
+      end-found t HasBound MayWait laws taken queue rest turned (paths_of found.cuts.items) (first-end t HasBound MayWait laws taken queue rest turned k searched own moved least whole)
       (subst (λ n. IsPermutation (turned ++ filter (λ p. nat_lt (length p) n) (prefixes rest)) (paths_of found.cuts.items)) of_items made.kept)
       made.sorted found
-      (subst (λ o. MatchOption o (HasNoPlacement t) (IsBest t)) (sym claim) (first-best t HasBound laws taken queue rest turned k searched moved least whole))
+      (subst (λ o. MatchOption o (HasNoPlacement t) (IsBest t)) (sym claim) (first-best t HasBound MayWait laws taken queue rest turned k searched own moved least whole))
       refl made.expanded
 
-  pub first-enough : (queue rest : List Key) (k : Key) (budget : ℕ) → IsSearched t HasBound taken queue turned → IsPermutation queue (k ∷ rest) → All (λ e. IsAtMost k e) rest → length k.1 ≡ length t.items
+  pub first-enough : (queue rest : List Key) (k : Key) (budget : ℕ) → IsSearched t HasBound MayWait taken queue turned → HasBound k.1 k.0 → IsPermutation queue (k ∷ rest) → All (λ e. IsAtMost k e) rest → length k.1 ≡ length t.items
       → length taken < budget → AreAtMost (IsPromising t HasBound) budget
-  first-enough queue rest k budget searched moved least whole within lists different promising =
-      omega (arith, first-at_most t HasBound laws taken queue rest turned k searched moved least whole lists different promising, within)
+  first-enough queue rest k budget searched own moved least whole within lists different promising =
+      omega (arith, first-at_most t HasBound MayWait laws taken queue rest turned k searched own moved least whole lists different promising, within)

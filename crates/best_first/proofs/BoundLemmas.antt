@@ -1,16 +1,13 @@
 -- fronts of prefixes with bounds, and of promising ones
-use Rattle.std.proofs.Common.{refl, ◌≡◌, ◌⊎◌, inl, inr, ℕ, ◌<◌, ◌≤◌, false, List, [], ◌∷◌, ◌++◌, length, Option, Some, None, sym, ap, subst, arith, append_assoc, append-nil, is_gt, Ordering, nat_cmp}
+use Rattle.std.proofs.Common.{refl, ◌≡◌, ℕ, ◌<◌, ◌≤◌, false, List, [], ◌∷◌, ◌++◌, length, sym, ap, subst, arith, append_assoc, append-nil, is_gt, Ordering, nat_cmp}
 use Rattle.std.proofs.lemmas.Bool.Decides.{nat_tests}
 use Rattle.std.proofs.lemmas.Cmp.{nat_cmp_total, tied_itself}
-use Rattle.std.specs.Prelude.{MatchOption}
 use Rattle.std.specs.Ordering.{ordering_then}
 use Rattle.std.specs.Cmp.Lexicographic.{slice_cmp}
 use Rattle.hold_limits.specs.Problem.{Problem}
 use Rattle.hold_limits.specs.Placement.{Key, IsAtMost, IsAdmissible, IsBest, key, distance}
 use Rattle.hold_limits.specs.Twins.{IsRising}
-use Rattle.hold_limits.specs.Enumeration.{best_by_trial}
 use Rattle.hold_limits.proofs.KeyOrder.{IsAtMost-trans, IsAtMost-antisymm}
-use Rattle.hold_limits.proofs.EnumerationLemmas.{best_by_trial-is}
 use Rattle.hold_limits.proofs.ExchangeLemmas.{best-rises}
 use Rattle.hold_reach.specs.Reach.{IsViable}
 use Rattle.hold_reach.proofs.ViableLemmas.{IsViable-front}
@@ -27,21 +24,17 @@ precedes-extension [] (q ∷ rest) = refl
 precedes-extension (x ∷ front) rest = rw (tied_itself nat_cmp_total x) (precedes-extension front rest)
 
 -- a bound that is at most another, with a front of the prefix
-at_most-extension : (m n : ℕ) (front rest : List ℕ) → m ≤ n → IsAtMost (m, front) (n, front ++ rest)
+pub at_most-extension : (m n : ℕ) (front rest : List ℕ) → m ≤ n → IsAtMost (m, front) (n, front ++ rest)
 at_most-extension m n front rest less = not_greater m n (slice_cmp nat_cmp front (front ++ rest)) less (precedes-extension front rest)
   where
     not_greater : (m n : ℕ) (o : Ordering) → m ≤ n → is_gt o ≡ false → is_gt (ordering_then (nat_cmp m n) o) ≡ false
     not_greater m n o less not = grind (arith, nat_tests)
 
--- The best path ---------------------------------------------------------------------------------
+-- as many ticks or more with the same numbers
+pub at_most-more : (m n : ℕ) (prefix : List ℕ) → m ≤ n → IsAtMost (m, prefix) (n, prefix)
+at_most-more m n prefix less = subst (λ p. IsAtMost (m, prefix) (n, p)) (append-nil prefix) (at_most-extension m n prefix [] less)
 
--- some path is the best, or none is admissible
-pub best_or_none : (t : Problem) → ((best : List ℕ) × IsBest t best) ⊎ HasNoPlacement t
-best_or_none t = cases (best_by_trial t) (best_by_trial-is t)
-  where
-    cases : (o : Option (List ℕ)) → MatchOption o (HasNoPlacement t) (IsBest t) → ((best : List ℕ) × IsBest t best) ⊎ HasNoPlacement t
-    cases None none = inr none
-    cases (Some best) is = inl (best, is)
+-- The best path ---------------------------------------------------------------------------------
 
 pub one_best : (t : Problem) (a b : List ℕ) → IsBest t a → IsBest t b → a ≡ b
 one_best t a b first second = ap (λ (k : Key). k.1) (IsAtMost-antisymm (key t a) (key t b) (first.least b second.admissible) (second.least a first.admissible))
@@ -51,7 +44,7 @@ best-viable t best is = IsViable-front t best [] (subst (IsAdmissible t) (sym (a
 
 -- Bounds ----------------------------------------------------------------------------------------
 
-module _ (t : Problem) (HasBound : List ℕ → ℕ → Type 0) (laws : AreBounds t HasBound) where
+module _ (t : Problem) (HasBound MayWait : List ℕ → ℕ → Type 0) (laws : AreBounds t HasBound MayWait) where
   -- a front has a bound that, with its numbers, is at most that of the prefix
   pub front-at_most : (front rest : List ℕ) (b : ℕ) → HasBound (front ++ rest) b → (a : ℕ) × HasBound front a × IsAtMost (a, front) (b, front ++ rest)
   front-at_most front [] b is = (b, subst (λ p. HasBound p b) (append-nil front) is, at_most-extension b b front [] (omega arith))

@@ -57,7 +57,7 @@ pub claim-covers : (t : Problem) (claim : Option (List ℕ)) → MatchOption cla
 claim-covers t None none path admissible = absurd (none path admissible)
 claim-covers t (Some best) is path admissible = is.least path admissible
 
-module _ (t : Problem) (HasBound : List ℕ → ℕ → Type 0) (laws : AreBounds t HasBound) where
+module _ (t : Problem) (HasBound MayWait : List ℕ → ℕ → Type 0) (laws : AreBounds t HasBound MayWait) where
   -- What is left --------------------------------------------------------------------------------
 
   -- the bound of what is left is at least the key of the best path
@@ -73,7 +73,7 @@ module _ (t : Problem) (HasBound : List ℕ → ℕ → Type 0) (laws : AreBound
 
   -- where no path is admissible, what is left has no bound
   pub left-none : (cut : List ℕ) (b : ℕ) → IsLeft t HasBound cut → HasBound cut b → HasNoPlacement t → ⊥
-  left-none cut b left is none = left.unpromising (promising-none t HasBound laws cut b none is)
+  left-none cut b left is none = left.unpromising (promising-none t HasBound MayWait laws cut b none is)
 
   -- nothing that is left begins with an earlier one
   left-apart : (a b : List ℕ) → IsLeft t HasBound a → IsLeft t HasBound b → IsBefore a b → Extends a b → ⊥
@@ -88,7 +88,7 @@ module _ (t : Problem) (HasBound : List ℕ → ℕ → Type 0) (laws : AreBound
           (λ (none : b ≡ []). absurd (omega (arith, ap length (sym is ∙ none), length-append a (r ∷ rest))))
           (λ (parent : HasPromisingParent t HasBound b).
           let within = front-of_parent a rest parent.0 r parent.1 (sym is ∙ parent.2) in
-          first.unpromising (IsPromising-begins t HasBound laws a within.0 (subst (IsPromising t HasBound) within.1 parent.3)))
+          first.unpromising (IsPromising-begins t HasBound MayWait laws a within.0 (subst (IsPromising t HasBound) within.1 parent.3)))
           second.reached
 
   -- What is found -------------------------------------------------------------------------------

@@ -5,3 +5,4 @@ pub mod CoverLemmas
 pub mod FrontLemmas
 pub mod QueueLemmas
 pub mod SearchLemmas
+mod TickLemmas

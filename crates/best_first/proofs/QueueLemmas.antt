@@ -1,16 +1,18 @@
 -- what the order of a heap says of the keys in it
-use Rattle.std.proofs.Common.{◌≡◌, ℕ, zero, suc, ◌+◌, ◌<◌, length, get_or, false, List, [], ◌∷◌, map, ap, arith, Ordering, Less, Equal, Greater, is_gt, refl}
+use Rattle.std.proofs.Common.{◌≡◌, ⊎_elim, ℕ, zero, suc, ◌+◌, ◌<◌, length, get_or, false, List, [], ◌∷◌, map, ap, arith, Ordering, Less, Equal, Greater, is_gt, refl}
 use Rattle.std.proofs.lemmas.List.{length-map}
 use Rattle.std.proofs.lemmas.Bool.{true≢false}
 use Rattle.std.proofs.lemmas.List.Elements.{All-nil, All-cons}
 use Rattle.std.specs.Ordering.{is_lt, ordering_reverse}
-use Rattle.std.specs.Prelude.{All, IsSorted}
+use Rattle.std.proofs.lemmas.List.Sorted.{Contains-permutation, length_permutation}
+use Rattle.std.specs.Prelude.{All, Contains, IsPermutation, IsSorted}
 use Rattle.std.specs.BinaryHeap.{IsUpperBound}
 use Rattle.std.specs.declared.cmp.Reverse.{Reverse}
 use Rattle.hold_limits.specs.Placement.{Key, key_cmp, IsAtMost}
 use Rattle.hold_limits.proofs.KeyOrder.{key_cmp_total}
 use Rattle.best_first.specs.declared.queue.Waiting.{Waiting}
 use Rattle.best_first.specs.Keys.{key_of_entry}
+use Rattle.best_first.proofs.CountLemmas.{Contains-cons, Contains-cons_cases, Contains-nil}
 
 turned : (o p : Ordering) → o ≡ ordering_reverse p → is_lt p ≡ false → is_gt o ≡ false
 turned o Less is not = absurd (true≢false not)
@@ -32,6 +34,15 @@ least-key x (y ∷ entries) above =
     All-cons (λ k. IsAtMost (key_of_entry x) k) (key_of_entry y) (map key_of_entry entries)
     (IsAtMost-from_not_less (key_of_entry x) (key_of_entry y) above.0)
     (least-key x entries above.1)
+
+-- what is added to an empty queue is alone
+pub one-alone : (k : Key) (queue : List Key) → IsPermutation (k ∷ []) queue → queue ≡ k ∷ []
+one-alone k [] added = absurd (omega (arith, length_permutation (k ∷ []) [] added))
+one-alone k (e ∷ []) added = ⊎_elim
+    (λ (same : e ≡ k). ap (λ f. f ∷ []) same)
+    (λ (none : Contains [] k). absurd (Contains-nil k none))
+    (Contains-cons_cases e [] k (Contains-permutation (k ∷ []) (e ∷ []) k added (Contains-cons k [])))
+one-alone k (e ∷ (f ∷ rest)) added = absurd (omega (arith, length_permutation (k ∷ []) (e ∷ f ∷ rest) added))
 
 -- Paths -----------------------------------------------------------------------------------------
 

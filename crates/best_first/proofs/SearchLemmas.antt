@@ -1,22 +1,22 @@
 -- what a best-first search knows between its steps
-use Rattle.std.proofs.Common.{refl, ◌≡◌, ◌≢◌, ⊎_elim, ℕ, ◌+◌, ◌<◌, List, [], ◌∷◌, ◌++◌, length, sym, ap, ap₂, ◌∙◌, subst, arith, append_assoc, append-nil, length-append, below_more}
+use Rattle.std.proofs.Common.{◌≡◌, ◌≢◌, ◌⊎◌, ⊎_elim, ℕ, ◌+◌, ◌<◌, ◌≤◌, List, [], ◌∷◌, ◌++◌, length, sym, ap, ap₂, ◌∙◌, subst, arith, append_assoc, length-append, below_more}
 use Rattle.std.proofs.lemmas.List.{map-append}
 use Rattle.std.proofs.lemmas.List.Elements.{All-nil, All-cons, All-head, All-tail, All-append, All-contains, All-weaker, Contains-append_left, Contains-append_right, Contains-append_cases, Contains-push}
 use Rattle.std.proofs.lemmas.List.Kept.{AllPairs-cons}
 use Rattle.std.proofs.lemmas.List.Sorted.{IsPermutation-refl, IsPermutation-sym, IsPermutation-trans, IsPermutation-cons, IsPermutation-map, IsPermutation-append_left, IsPermutation-append_right, IsPermutation-append_comm, IsPermutation-middle, All-permutation, Contains-permutation}
-use Rattle.std.specs.Prelude.{All, AllPairs, Contains, IsPermutation, Option, Some, None, IfSome, IfNone}
+use Rattle.std.specs.Prelude.{All, AllPairs, Contains, IsPermutation}
 use Rattle.hold_limits.specs.Problem.{Problem}
 use Rattle.hold_limits.specs.Placement.{Key, IsAtMost}
 use Rattle.hold_limits.proofs.KeyOrder.{IsAtMost-refl, IsAtMost-trans}
 use Rattle.hold_limits.proofs.SoundLemmas.{IsSound-within}
 use Rattle.hold_reach.specs.Reach.{IsViable}
 use Rattle.certificate.specs.Good.{IsIncomplete}
-use Rattle.best_first.specs.Bounds.{AreBounds}
+use Rattle.best_first.specs.Bounds.{AreBounds, HasReachBound}
 use Rattle.best_first.specs.Keys.{prefixes}
 use Rattle.best_first.specs.Promising.{HasNoBound}
-use Rattle.best_first.specs.Search.{IsPrefix, IsNext, AreChildren, AddsChildren, IsTakenUp, known, IsSearched}
+use Rattle.best_first.specs.Search.{IsWaiting, IsNext, AreChildren, AddsChildren, known, IsSearched}
 use Rattle.best_first.proofs.CountLemmas.{Contains-cons, Contains-later, Contains-cons_cases, Contains-nil, AllPairs-append, All-from_contains, apart-append, different-permutation, last-same}
-use Rattle.best_first.proofs.BoundLemmas.{front-at_most, viable-none}
+use Rattle.best_first.proofs.BoundLemmas.{at_most-extension, at_most-more, viable-none}
 
 pub Contains-prefixes : (keys : List Key) (k : Key) → Contains keys k → Contains (prefixes keys) k.1
 Contains-prefixes keys k inside = All-contains (λ (e : Key). Contains (prefixes keys) e.1) keys k (each keys) inside
@@ -47,35 +47,34 @@ apart-next front number p others is next = All-weaker (IsNext front number) (λ 
     (λ q of_front same. absurd (omega (arith, of_front.1, (last-same front front number of_front.0 (sym is ∙ same ∙ of_front.2)).1)))
     others next
 
-module _ (t : Problem) (HasBound : List ℕ → ℕ → Type 0) (front : List ℕ) where
-  AreChildren-none : AreChildren t HasBound front 0 [] []
+module _ (t : Problem) (MayWait : List ℕ → ℕ → Type 0) (front : List ℕ) (bound : ℕ) where
+  AreChildren-none : AreChildren t MayWait front bound 0 []
   AreChildren-none = record {
-    bounds = All-nil (IsPrefix HasBound);
-    none = All-nil (HasNoBound t HasBound);
+    waiting = All-nil (IsWaiting MayWait);
+    later = All-nil (λ (k : Key). bound ≤ k.0);
     next = All-nil (IsNext front 0);
     different = λ i j d before within. absurd (omega arith);
     every = λ q below. absurd (omega arith);
   }
 
   -- a number with which the front is not viable
-  AreChildren-passed : (number : ℕ) (children : List Key) (turned : List (List ℕ)) → (IsViable t (front ++ number ∷ []) → ⊥) → AreChildren t HasBound front number children turned
-      → AreChildren t HasBound front (number + 1) children turned
-  AreChildren-passed number children turned not are = record {
-    bounds = are.bounds;
-    none = are.none;
-    next = All-weaker (IsNext front number) (IsNext front (number + 1)) (next-more front number) (prefixes children ++ turned) are.next;
+  AreChildren-passed : (number : ℕ) (children : List Key) → (IsViable t (front ++ number ∷ []) → ⊥) → AreChildren t MayWait front bound number children → AreChildren t MayWait front bound (number + 1) children
+  AreChildren-passed number children not are = record {
+    waiting = are.waiting;
+    later = are.later;
+    next = All-weaker (IsNext front number) (IsNext front (number + 1)) (next-more front number) (prefixes children) are.next;
     different = are.different;
-    every = below_more (λ q. IsViable t (front ++ q ∷ []) → Contains (prefixes children ++ turned) (front ++ q ∷ [])) number are.every (λ viable. absurd (not viable));
+    every = below_more (λ q. IsViable t (front ++ q ∷ []) → Contains (prefixes children) (front ++ q ∷ [])) number are.every (λ viable. absurd (not viable));
   }
 
-  -- a number with which it has a bound
-  AreChildren-added : (number : ℕ) (children : List Key) (turned : List (List ℕ)) (k : Key) → IsPrefix HasBound k → k.1 ≡ front ++ number ∷ [] → AreChildren t HasBound front number children turned
-      → AreChildren t HasBound front (number + 1) (k ∷ children) turned
-  AreChildren-added number children turned k of_prefix is are =
-      let others = prefixes children ++ turned in
+  -- a number with which it may wait with so many ticks
+  AreChildren-added : (number : ℕ) (children : List Key) (k : Key) → IsWaiting MayWait k → bound ≤ k.0 → k.1 ≡ front ++ number ∷ [] → AreChildren t MayWait front bound number children
+      → AreChildren t MayWait front bound (number + 1) (k ∷ children)
+  AreChildren-added number children k waits later is are =
+      let others = prefixes children in
       record {
-        bounds = All-cons (IsPrefix HasBound) k children of_prefix are.bounds;
-        none = are.none;
+        waiting = All-cons (IsWaiting MayWait) k children waits are.waiting;
+        later = All-cons (λ (e : Key). bound ≤ e.0) k children later are.later;
         next = All-cons (IsNext front (number + 1)) k.1 others (number, omega arith, is)
             (All-weaker (IsNext front number) (IsNext front (number + 1)) (next-more front number) others are.next);
         different = AllPairs-cons (λ p q. p ≢ q) k.1 others (apart-next front number k.1 others is are.next) are.different;
@@ -84,92 +83,29 @@ module _ (t : Problem) (HasBound : List ℕ → ℕ → Type 0) (front : List �
             (λ one. subst (λ p. Contains (k.1 ∷ others) p) is (Contains-cons k.1 others));
       }
 
-  -- a number with which it has none
-  AreChildren-turned : (number : ℕ) (children : List Key) (turned : List (List ℕ)) (p : List ℕ) → HasNoBound t HasBound p → p ≡ front ++ number ∷ [] → AreChildren t HasBound front number children turned
-      → AreChildren t HasBound front (number + 1) children (p ∷ turned)
-  AreChildren-turned number children turned p none is are =
-      let others = prefixes children ++ turned in
-      let moved : IsPermutation (p ∷ others) (prefixes children ++ p ∷ turned) = IsPermutation-sym (prefixes children ++ p ∷ turned) (p ∷ others) (IsPermutation-middle (prefixes children) p turned) in
-      record {
-        bounds = are.bounds;
-        none = All-cons (HasNoBound t HasBound) p turned none are.none;
-        next = All-permutation (IsNext front (number + 1)) (p ∷ others) (prefixes children ++ p ∷ turned) moved
-            (All-cons (IsNext front (number + 1)) p others (number, omega arith, is)
-            (All-weaker (IsNext front number) (IsNext front (number + 1)) (next-more front number) others are.next));
-        different = different-permutation (p ∷ others) (prefixes children ++ p ∷ turned) moved
-            (AllPairs-cons (λ p q. p ≢ q) p others (apart-next front number p others is are.next) are.different);
-        every = below_more (λ q. IsViable t (front ++ q ∷ []) → Contains (prefixes children ++ p ∷ turned) (front ++ q ∷ [])) number
-            (λ q below one. Contains-permutation (p ∷ others) (prefixes children ++ p ∷ turned) (front ++ q ∷ []) moved (Contains-later p others (front ++ q ∷ []) (are.every q below one)))
-            (λ one. subst (λ q. Contains (prefixes children ++ p ∷ turned) q) is (Contains-permutation (p ∷ others) (prefixes children ++ p ∷ turned) p moved (Contains-cons p others)));
-      }
-
-  pub AddsChildren-none : (queue : List Key) (turned : List (List ℕ)) → AddsChildren t HasBound front 0 queue queue turned turned
-  AddsChildren-none queue turned = record {
+  pub AddsChildren-none : (queue : List Key) → AddsChildren t MayWait front bound 0 queue queue
+  AddsChildren-none queue = record {
     children = [];
-    turned = [];
     are = AreChildren-none;
     added = IsPermutation-refl queue;
-    noted = IsPermutation-refl turned;
   }
 
-  pub AddsChildren-passed : (number : ℕ) (old new : List Key) (before after : List (List ℕ)) → (IsViable t (front ++ number ∷ []) → ⊥) → AddsChildren t HasBound front number old new before after
-      → AddsChildren t HasBound front (number + 1) old new before after
-  AddsChildren-passed number old new before after not adds = record {
+  pub AddsChildren-passed : (number : ℕ) (old new : List Key) → (IsViable t (front ++ number ∷ []) → ⊥) → AddsChildren t MayWait front bound number old new → AddsChildren t MayWait front bound (number + 1) old new
+  AddsChildren-passed number old new not adds = record {
     children = adds.children;
-    turned = adds.turned;
-    are = AreChildren-passed number adds.children adds.turned not adds.are;
+    are = AreChildren-passed number adds.children not adds.are;
     added = adds.added;
-    noted = adds.noted;
   }
 
-  pub AddsChildren-added : (number : ℕ) (old mid new : List Key) (before after : List (List ℕ)) (k : Key) → IsPrefix HasBound k → k.1 ≡ front ++ number ∷ [] → IsPermutation (k ∷ mid) new
-      → AddsChildren t HasBound front number old mid before after → AddsChildren t HasBound front (number + 1) old new before after
-  AddsChildren-added number old mid new before after k of_prefix is added adds = record {
+  pub AddsChildren-added : (number : ℕ) (old mid new : List Key) (k : Key) → IsWaiting MayWait k → bound ≤ k.0 → k.1 ≡ front ++ number ∷ [] → IsPermutation (k ∷ mid) new → AddsChildren t MayWait front bound number old mid
+      → AddsChildren t MayWait front bound (number + 1) old new
+  AddsChildren-added number old mid new k waits later is added adds = record {
     children = k ∷ adds.children;
-    turned = adds.turned;
-    are = AreChildren-added number adds.children adds.turned k of_prefix is adds.are;
+    are = AreChildren-added number adds.children k waits later is adds.are;
     added = IsPermutation-trans (k ∷ (adds.children ++ old)) (k ∷ mid) new (IsPermutation-cons k (adds.children ++ old) mid adds.added) added;
-    noted = adds.noted;
   }
-
-  pub AddsChildren-turned : (number : ℕ) (old new : List Key) (before mid after : List (List ℕ)) (p : List ℕ) → HasNoBound t HasBound p → p ≡ front ++ number ∷ [] → after ≡ mid ++ p ∷ []
-      → AddsChildren t HasBound front number old new before mid → AddsChildren t HasBound front (number + 1) old new before after
-  AddsChildren-turned number old new before mid after p none is noted adds = record {
-    children = adds.children;
-    turned = p ∷ adds.turned;
-    are = AreChildren-turned number adds.children adds.turned p none is adds.are;
-    added = adds.added;
-    noted = subst (IsPermutation (p ∷ (adds.turned ++ before))) (sym noted)
-        (IsPermutation-trans (p ∷ (adds.turned ++ before)) (p ∷ mid) (mid ++ p ∷ []) (IsPermutation-cons p (adds.turned ++ before) mid adds.noted) (IsPermutation-append_comm (p ∷ []) mid));
-  }
-
--- the prefix with this number was taken up
-pub AddsChildren-taken_up : (t : Problem) (HasBound : List ℕ → ℕ → Type 0) (laws : AreBounds t HasBound) (front : List ℕ) (number : ℕ) (bound : Option ℕ) (old mid new : List Key) (before between after : List (List ℕ))
-    → IfSome bound (HasBound (front ++ number ∷ [])) → IfNone bound ((b : ℕ) → HasBound (front ++ number ∷ []) b → ⊥) → IsTakenUp t (front ++ number ∷ []) bound mid new between after
-    → AddsChildren t HasBound front number old mid before between → AddsChildren t HasBound front (number + 1) old new before after
-AddsChildren-taken_up t HasBound laws front number (Some b) old mid new before between after found none taken adds =
-    subst (λ turned. AddsChildren t HasBound front (number + 1) old new before turned) (sym taken.1)
-    (AddsChildren-added t HasBound front number old mid new before between (b, front ++ number ∷ []) found refl taken.0 adds)
-AddsChildren-taken_up t HasBound laws front number None old mid new before between after found none taken adds =
-    let p = front ++ number ∷ [] in
-    subst (λ queue. AddsChildren t HasBound front (number + 1) old queue before after) (sym taken.0)
-    (⊎_elim
-    (λ (noted : IsViable t p × (after ≡ between ++ p ∷ [])). AddsChildren-turned t HasBound front number old mid before between after p (viable-none t HasBound laws p noted.0 none) refl noted.1 adds)
-    (λ (passed : (IsViable t p → ⊥) × (after ≡ between)).
-    subst (λ turned. AddsChildren t HasBound front (number + 1) old mid before turned) (sym passed.1) (AddsChildren-passed t HasBound front number old mid before between passed.0 adds))
-    taken.1)
 
 -- What is known ---------------------------------------------------------------------------------
-
--- four lists, with the inner two in the other order
-inner-turned : {X : Type 0} (first second third fourth : List X) → IsPermutation ((first ++ second) ++ (third ++ fourth)) ((first ++ third) ++ (second ++ fourth))
-inner-turned first second third fourth =
-    subst (λ xs. IsPermutation xs ((first ++ third) ++ (second ++ fourth))) (sym (append_assoc first second (third ++ fourth)))
-    (subst (λ xs. IsPermutation (first ++ (second ++ (third ++ fourth))) xs) (sym (append_assoc first third (second ++ fourth)))
-    (IsPermutation-append_right first (second ++ (third ++ fourth)) (third ++ (second ++ fourth))
-    (subst (λ xs. IsPermutation xs (third ++ (second ++ fourth))) (append_assoc second third fourth)
-    (subst (λ xs. IsPermutation ((second ++ third) ++ fourth) xs) (append_assoc third second fourth)
-    (IsPermutation-append_left fourth (second ++ third) (third ++ second) (IsPermutation-append_comm second third))))))
 
 -- what is taken or waits before the least is taken, with its children, is what is taken or waits then
 waiting-next : (taken : List (List ℕ)) (queue rest children new : List Key) (k : Key) → IsPermutation queue (k ∷ rest) → IsPermutation (children ++ rest) new
@@ -197,22 +133,36 @@ waiting-next taken queue rest children new k moved added =
     (IsPermutation-cons k.1 _ _ (IsPermutation-trans _ _ _ turned four)))
 
 -- the same of all that is known
-known-next : (taken : List (List ℕ)) (queue rest children new : List Key) (turned before after : List (List ℕ)) (k : Key) → IsPermutation queue (k ∷ rest) → IsPermutation (children ++ rest) new
-    → IsPermutation (turned ++ before) after → IsPermutation ((prefixes children ++ turned) ++ known taken queue before) (known (k.1 ∷ taken) new after)
-known-next taken queue rest children new turned before after k moved added noted =
-    IsPermutation-trans ((prefixes children ++ turned) ++ ((taken ++ prefixes queue) ++ before)) ((prefixes children ++ (taken ++ prefixes queue)) ++ (turned ++ before)) (known (k.1 ∷ taken) new after)
-    (inner-turned (prefixes children) turned (taken ++ prefixes queue) before)
-    (IsPermutation-trans ((prefixes children ++ (taken ++ prefixes queue)) ++ (turned ++ before)) (((k.1 ∷ taken) ++ prefixes new) ++ (turned ++ before)) (known (k.1 ∷ taken) new after)
-    (IsPermutation-append_left (turned ++ before) (prefixes children ++ (taken ++ prefixes queue)) ((k.1 ∷ taken) ++ prefixes new) (waiting-next taken queue rest children new k moved added))
-    (IsPermutation-append_right ((k.1 ∷ taken) ++ prefixes new) (turned ++ before) after noted))
+known-next : (taken : List (List ℕ)) (queue rest children new : List Key) (turned : List (List ℕ)) (k : Key) → IsPermutation queue (k ∷ rest) → IsPermutation (children ++ rest) new
+    → IsPermutation (prefixes children ++ known taken queue turned) (known (k.1 ∷ taken) new turned)
+known-next taken queue rest children new turned k moved added =
+    subst (λ xs. IsPermutation xs (known (k.1 ∷ taken) new turned)) (append_assoc (prefixes children) (taken ++ prefixes queue) turned)
+    (IsPermutation-append_left turned (prefixes children ++ (taken ++ prefixes queue)) ((k.1 ∷ taken) ++ prefixes new) (waiting-next taken queue rest children new k moved added))
+
+-- as much is known with another queue of the same prefixes
+known-later : (taken : List (List ℕ)) (queue new : List Key) (turned : List (List ℕ)) → IsPermutation (prefixes queue) (prefixes new) → IsPermutation (known taken queue turned) (known taken new turned)
+known-later taken queue new turned moved = IsPermutation-append_left turned (taken ++ prefixes queue) (taken ++ prefixes new) (IsPermutation-append_right taken (prefixes queue) (prefixes new) moved)
+
+-- as much is known where a prefix that waited is noted
+known-noted : (taken : List (List ℕ)) (queue rest : List Key) (turned : List (List ℕ)) (k : Key) → IsPermutation queue (k ∷ rest) → IsPermutation (known taken queue turned) (known taken rest (turned ++ k.1 ∷ []))
+known-noted taken queue rest turned k moved =
+    let first : IsPermutation (known taken queue turned) ((taken ++ k.1 ∷ prefixes rest) ++ turned) =
+    IsPermutation-append_left turned (taken ++ prefixes queue) (taken ++ k.1 ∷ prefixes rest)
+    (IsPermutation-append_right taken (prefixes queue) (k.1 ∷ prefixes rest) (IsPermutation-map (λ (e : Key). e.1) queue (k ∷ rest) moved)) in
+    let second : IsPermutation ((taken ++ k.1 ∷ prefixes rest) ++ turned) (k.1 ∷ ((taken ++ prefixes rest) ++ turned)) =
+    IsPermutation-append_left turned (taken ++ k.1 ∷ prefixes rest) (k.1 ∷ (taken ++ prefixes rest)) (IsPermutation-middle taken k.1 (prefixes rest)) in
+    let third : IsPermutation (k.1 ∷ ((taken ++ prefixes rest) ++ turned)) (((taken ++ prefixes rest) ++ turned) ++ k.1 ∷ []) =
+    IsPermutation-append_comm (k.1 ∷ []) ((taken ++ prefixes rest) ++ turned) in
+    subst (IsPermutation (known taken queue turned)) (append_assoc (taken ++ prefixes rest) turned (k.1 ∷ []))
+    (IsPermutation-trans _ _ _ first (IsPermutation-trans _ _ _ second third))
 
 -- At the start ----------------------------------------------------------------------------------
 
-module _ (t : Problem) (HasBound : List ℕ → ℕ → Type 0) where
-  pub IsSearched-empty : (IsViable t [] → ⊥) → IsSearched t HasBound [] [] []
+module _ (t : Problem) (HasBound MayWait : List ℕ → ℕ → Type 0) where
+  pub IsSearched-empty : (IsViable t [] → ⊥) → IsSearched t HasBound MayWait [] [] []
   IsSearched-empty not = record {
     bounded = All-nil (λ p. (b : ℕ) × HasBound p b);
-    waiting = All-nil (IsPrefix HasBound);
+    waiting = All-nil (IsWaiting MayWait);
     none = All-nil (HasNoBound t HasBound);
     different = λ i j d before within. absurd (omega arith);
     incomplete = All-nil (IsIncomplete t);
@@ -229,57 +179,99 @@ module _ (t : Problem) (HasBound : List ℕ → ℕ → Type 0) where
       (λ (none : Contains [] (prefix ++ q ∷ [])). Contains-nil (prefix ++ q ∷ []) none)
       (Contains-cons_cases [] [] (prefix ++ q ∷ []) inside)
 
-  -- only the empty prefix is known
-  IsSearched-one : (queue : List Key) (turned : List (List ℕ)) → IsPermutation ([] ∷ []) (known [] queue turned) → All (IsPrefix HasBound) queue → All (HasNoBound t HasBound) turned → IsSearched t HasBound [] queue turned
-  IsSearched-one queue turned moved waiting none = record {
+  -- only the empty prefix is known, and it waits
+  pub IsSearched-first : (b : ℕ) → MayWait [] b → IsSearched t HasBound MayWait [] ((b, []) ∷ []) []
+  IsSearched-first b waits = record {
     bounded = All-nil (λ p. (b : ℕ) × HasBound p b);
-    waiting = waiting;
-    none = none;
-    different = different-permutation ([] ∷ []) (known [] queue turned) moved (λ i j d before within. absurd (omega arith));
+    waiting = All-cons (IsWaiting MayWait) (b, []) [] waits (All-nil (IsWaiting MayWait));
+    none = All-nil (HasNoBound t HasBound);
+    different = λ i j d before within. absurd (omega arith);
     incomplete = All-nil (IsIncomplete t);
     least = λ prefix b inside of_prefix. absurd (Contains-nil prefix inside);
-    begun = λ viable. Contains-permutation ([] ∷ []) (known [] queue turned) [] moved (Contains-cons [] []);
+    begun = λ viable. Contains-cons [] [];
     children = λ prefix q inside viable. absurd (Contains-nil prefix inside);
-    parents = λ prefix q inside. absurd (not-longer prefix q (Contains-permutation (known [] queue turned) ([] ∷ []) (prefix ++ q ∷ []) (IsPermutation-sym ([] ∷ []) (known [] queue turned) moved) inside));
+    parents = λ prefix q inside. absurd (not-longer prefix q inside);
   }
 
-  -- it waits
-  pub IsSearched-first : (k : Key) (queue : List Key) → IsPrefix HasBound k → k.1 ≡ [] → IsPermutation (k ∷ []) queue → IsSearched t HasBound [] queue []
-  IsSearched-first k queue is empty added =
-      let moved : IsPermutation ([] ∷ []) (prefixes queue) = subst (λ p. IsPermutation (p ∷ []) (prefixes queue)) empty (IsPermutation-map (λ (e : Key). e.1) (k ∷ []) queue added) in
-      IsSearched-one queue [] (subst (IsPermutation ([] ∷ [])) (sym (append-nil (prefixes queue))) moved)
-      (All-permutation (IsPrefix HasBound) (k ∷ []) queue added (All-cons (IsPrefix HasBound) k [] is (All-nil (IsPrefix HasBound))))
-      (All-nil (HasNoBound t HasBound))
+  -- the empty prefix waits with its reach bound, where it is viable
+  pub IsSearched-begun : AreBounds t HasBound MayWait → (queue : List Key) → (IsViable t [] × ((b : ℕ) × HasReachBound t [] b × (queue ≡ (b, []) ∷ []))) ⊎ ((IsViable t [] → ⊥) × (queue ≡ [])) → IsSearched t HasBound MayWait [] queue []
+  IsSearched-begun laws queue begun = ⊎_elim
+      (λ (some : IsViable t [] × ((b : ℕ) × HasReachBound t [] b × (queue ≡ (b, []) ∷ []))).
+      subst (λ q. IsSearched t HasBound MayWait [] q []) (sym some.1.2) (IsSearched-first some.1.0 (laws.reach [] some.1.0 some.1.1)))
+      (λ (none : (IsViable t [] → ⊥) × (queue ≡ [])). subst (λ q. IsSearched t HasBound MayWait [] q []) (sym none.1) (IsSearched-empty none.0))
+      begun
 
-  -- the search turned back there
-  pub IsSearched-turned : HasNoBound t HasBound [] → IsSearched t HasBound [] [] ([] ∷ [])
-  IsSearched-turned none = IsSearched-one [] ([] ∷ []) (IsPermutation-refl ([] ∷ [])) (All-nil (IsPrefix HasBound)) (All-cons (HasNoBound t HasBound) [] [] none (All-nil (HasNoBound t HasBound)))
+-- Until a prefix waits with its own bound -------------------------------------------------------
 
--- the empty prefix was taken up
-pub IsSearched-taken_up : (t : Problem) (HasBound : List ℕ → ℕ → Type 0) (laws : AreBounds t HasBound) (bound : Option ℕ) (queue : List Key) (turned : List (List ℕ))
-    → IfSome bound (HasBound []) → IfNone bound ((b : ℕ) → HasBound [] b → ⊥) → IsTakenUp t [] bound [] queue [] turned → IsSearched t HasBound [] queue turned
-IsSearched-taken_up t HasBound laws (Some b) queue turned found none taken = subst (IsSearched t HasBound [] queue) (sym taken.1) (IsSearched-first t HasBound (b, []) queue found refl taken.0)
-IsSearched-taken_up t HasBound laws None queue turned found none taken =
-    subst (λ queue. IsSearched t HasBound [] queue turned) (sym taken.0)
-    (⊎_elim
-    (λ (noted : IsViable t [] × (turned ≡ [] ∷ [])). subst (IsSearched t HasBound [] []) (sym noted.1) (IsSearched-turned t HasBound (viable-none t HasBound laws [] noted.0 none)))
-    (λ (passed : (IsViable t [] → ⊥) × (turned ≡ [])). subst (IsSearched t HasBound [] []) (sym passed.1) (IsSearched-empty t HasBound passed.0))
-    taken.1)
+module _ (t : Problem) (HasBound MayWait : List ℕ → ℕ → Type 0) where
+  -- the same prefixes are known with another queue, and with others noted
+  known-again : (taken : List (List ℕ)) (queue new : List Key) (before after : List (List ℕ)) → IsPermutation (known taken queue before) (known taken new after) → All (IsWaiting MayWait) new → All (HasNoBound t HasBound) after
+      → ((prefix : List ℕ) (b : ℕ) → Contains taken prefix → HasBound prefix b → All (λ e. IsAtMost (b, prefix) e) new) → IsSearched t HasBound MayWait taken queue before → IsSearched t HasBound MayWait taken new after
+  known-again taken queue new before after moved waiting none least searched = record {
+    bounded = searched.bounded;
+    waiting = waiting;
+    none = none;
+    different = different-permutation (known taken queue before) (known taken new after) moved searched.different;
+    incomplete = searched.incomplete;
+    least = least;
+    begun = λ viable. still [] (searched.begun viable);
+    children = λ prefix q inside viable. still (prefix ++ q ∷ []) (searched.children prefix q inside viable);
+    parents = λ prefix q inside. searched.parents prefix q
+        (Contains-permutation (known taken new after) (known taken queue before) (prefix ++ q ∷ []) (IsPermutation-sym (known taken queue before) (known taken new after) moved) inside);
+  }
+    where
+      still : (p : List ℕ) → Contains (known taken queue before) p → Contains (known taken new after) p
+      still p inside = Contains-permutation (known taken queue before) (known taken new after) p moved inside
+
+  -- the least that waited is put back with more ticks
+  pub IsSearched-later : (taken : List (List ℕ)) (queue rest new : List Key) (turned : List (List ℕ)) (k : Key) (ticks : ℕ) → IsPermutation queue (k ∷ rest) → k.0 < ticks → MayWait k.1 ticks → IsPermutation ((ticks, k.1) ∷ rest) new
+      → IsSearched t HasBound MayWait taken queue turned → IsSearched t HasBound MayWait taken new turned
+  IsSearched-later taken queue rest new turned k ticks moved more waits added searched =
+      let later : Key = (ticks, k.1) in
+      let all : All (IsWaiting MayWait) (k ∷ rest) = All-permutation (IsWaiting MayWait) queue (k ∷ rest) moved searched.waiting in
+      known-again taken queue new turned turned
+      (known-later taken queue new turned
+      (IsPermutation-trans (prefixes queue) (k.1 ∷ prefixes rest) (prefixes new)
+      (IsPermutation-map (λ (e : Key). e.1) queue (k ∷ rest) moved)
+      (IsPermutation-map (λ (e : Key). e.1) (later ∷ rest) new added)))
+      (All-permutation (IsWaiting MayWait) (later ∷ rest) new added (All-cons (IsWaiting MayWait) later rest waits (All-tail (IsWaiting MayWait) k rest all)))
+      searched.none
+      (λ prefix b inside is.
+      let above : All (λ e. IsAtMost (b, prefix) e) (k ∷ rest) = All-permutation (λ e. IsAtMost (b, prefix) e) queue (k ∷ rest) moved (searched.least prefix b inside is) in
+      All-permutation (λ e. IsAtMost (b, prefix) e) (later ∷ rest) new added
+      (All-cons (λ e. IsAtMost (b, prefix) e) later rest
+      (IsAtMost-trans (b, prefix) k later (All-head (λ e. IsAtMost (b, prefix) e) k rest above) (at_most-more k.0 ticks k.1 (omega (arith, more))))
+      (All-tail (λ e. IsAtMost (b, prefix) e) k rest above)))
+      searched
+
+  -- the least that waited is noted, since it has no bound
+  pub IsSearched-noted : AreBounds t HasBound MayWait → (taken : List (List ℕ)) (queue rest : List Key) (turned : List (List ℕ)) (k : Key) → IsPermutation queue (k ∷ rest) → ((b : ℕ) → HasBound k.1 b → ⊥)
+      → IsSearched t HasBound MayWait taken queue turned → IsSearched t HasBound MayWait taken rest (turned ++ k.1 ∷ [])
+  IsSearched-noted laws taken queue rest turned k moved none searched =
+      let all : All (IsWaiting MayWait) (k ∷ rest) = All-permutation (IsWaiting MayWait) queue (k ∷ rest) moved searched.waiting in
+      let viable : IsViable t k.1 = laws.waiting k.1 k.0 (All-head (IsWaiting MayWait) k rest all) in
+      known-again taken queue rest turned (turned ++ k.1 ∷ []) (known-noted taken queue rest turned k moved)
+      (All-tail (IsWaiting MayWait) k rest all)
+      (All-append (HasNoBound t HasBound) turned (k.1 ∷ []) searched.none
+      (All-cons (HasNoBound t HasBound) k.1 [] (viable-none t HasBound MayWait laws k.1 viable none) (All-nil (HasNoBound t HasBound))))
+      (λ prefix b inside is. All-tail (λ e. IsAtMost (b, prefix) e) k rest (All-permutation (λ e. IsAtMost (b, prefix) e) queue (k ∷ rest) moved (searched.least prefix b inside is)))
+      searched
 
 -- One prefix more -------------------------------------------------------------------------------
 
-module _ (t : Problem) (HasBound : List ℕ → ℕ → Type 0) (laws : AreBounds t HasBound) where
-  -- the least was taken, its children with bounds wait, and the search turned back at the others
-  pub IsSearched-next : (taken : List (List ℕ)) (queue rest new : List Key) (before after : List (List ℕ)) (k : Key)
-      → IsPermutation queue (k ∷ rest) → All (λ e. IsAtMost k e) rest → IsIncomplete t k.1 → AddsChildren t HasBound k.1 (length t.hold.positions) rest new before after
-      → IsSearched t HasBound taken queue before → IsSearched t HasBound (k.1 ∷ taken) new after
-  IsSearched-next taken queue rest new before after k moved least incomplete adds searched = record {
+module _ (t : Problem) (HasBound MayWait : List ℕ → ℕ → Type 0) (laws : AreBounds t HasBound MayWait) where
+  -- the least was taken with its own bound, and its children wait
+  pub IsSearched-next : (taken : List (List ℕ)) (queue rest new : List Key) (turned : List (List ℕ)) (k : Key)
+      → HasBound k.1 k.0 → IsPermutation queue (k ∷ rest) → All (λ e. IsAtMost k e) rest → IsIncomplete t k.1 → AddsChildren t MayWait k.1 k.0 (length t.hold.positions) rest new
+      → IsSearched t HasBound MayWait taken queue turned → IsSearched t HasBound MayWait (k.1 ∷ taken) new turned
+  IsSearched-next taken queue rest new turned k here moved least incomplete adds searched = record {
     bounded = All-cons (λ p. (b : ℕ) × HasBound p b) k.1 taken (k.0, here) searched.bounded;
-    waiting = All-permutation (IsPrefix HasBound) (children ++ rest) new adds.added (All-append (IsPrefix HasBound) children rest adds.are.bounds (All-tail (IsPrefix HasBound) k rest all));
-    none = All-permutation (HasNoBound t HasBound) (adds.turned ++ before) after adds.noted (All-append (HasNoBound t HasBound) adds.turned before adds.are.none searched.none);
-    different = different-permutation (offspring ++ old) now all_known
-        (AllPairs-append (λ p q. p ≢ q) offspring old adds.are.different searched.different
-        (All-from_contains (λ p. All (λ q. p ≢ q) old) offspring
+    waiting = All-permutation (IsWaiting MayWait) (children ++ rest) new adds.added
+        (All-append (IsWaiting MayWait) children rest adds.are.waiting (All-tail (IsWaiting MayWait) k rest (All-permutation (IsWaiting MayWait) queue (k ∷ rest) moved searched.waiting)));
+    none = searched.none;
+    different = different-permutation (prefixes children ++ old) now all_known
+        (AllPairs-append (λ p q. p ≢ q) (prefixes children) old adds.are.different searched.different
+        (All-from_contains (λ p. All (λ q. p ≢ q) old) (prefixes children)
         (λ p inside. All-from_contains (λ q. p ≢ q) old (λ q of_known same. fresh p inside (subst (Contains old) (sym same) of_known)))));
     incomplete = All-cons (IsIncomplete t) k.1 taken incomplete searched.incomplete;
     least = λ prefix b inside is. All-permutation (λ e. IsAtMost (b, prefix) e) (children ++ rest) new adds.added (below prefix b inside is);
@@ -289,62 +281,53 @@ module _ (t : Problem) (HasBound : List ℕ → ℕ → Type 0) (laws : AreBound
         (λ (earlier : Contains taken prefix). still (prefix ++ q ∷ []) (searched.children prefix q earlier viable))
         (Contains-cons_cases k.1 taken prefix inside);
     parents = λ prefix q inside. ⊎_elim
-        (λ (of_children : Contains offspring (prefix ++ q ∷ [])).
+        (λ (of_children : Contains (prefixes children) (prefix ++ q ∷ [])).
         subst (Contains (k.1 ∷ taken)) (parent prefix q of_children) (Contains-cons k.1 taken))
         (λ (earlier : Contains old (prefix ++ q ∷ [])). Contains-later k.1 taken prefix (searched.parents prefix q earlier))
-        (Contains-append_cases offspring old (prefix ++ q ∷ []) (Contains-permutation now (offspring ++ old) (prefix ++ q ∷ [])
-        (IsPermutation-sym (offspring ++ old) now all_known) inside));
+        (Contains-append_cases (prefixes children) old (prefix ++ q ∷ []) (Contains-permutation now (prefixes children ++ old) (prefix ++ q ∷ [])
+        (IsPermutation-sym (prefixes children ++ old) now all_known) inside));
   }
     where
       children : List Key
       children = adds.children
 
-      offspring : List (List ℕ)
-      offspring = prefixes adds.children ++ adds.turned
-
       old : List (List ℕ)
-      old = known taken queue before
+      old = known taken queue turned
 
       now : List (List ℕ)
-      now = known (k.1 ∷ taken) new after
+      now = known (k.1 ∷ taken) new turned
 
-      all_known : IsPermutation (offspring ++ old) now
-      all_known = known-next taken queue rest adds.children new adds.turned before after k moved adds.added adds.noted
-
-      all : All (IsPrefix HasBound) (k ∷ rest)
-      all = All-permutation (IsPrefix HasBound) queue (k ∷ rest) moved searched.waiting
-
-      here : IsPrefix HasBound k
-      here = All-head (IsPrefix HasBound) k rest all
+      all_known : IsPermutation (prefixes children ++ old) now
+      all_known = known-next taken queue rest adds.children new turned k moved adds.added
 
       still : (p : List ℕ) → Contains old p → Contains now p
-      still p inside = Contains-permutation (offspring ++ old) now p all_known (Contains-append_right offspring old p inside)
+      still p inside = Contains-permutation (prefixes children ++ old) now p all_known (Contains-append_right (prefixes children) old p inside)
 
       child : (q : ℕ) → IsViable t (k.1 ++ q ∷ []) → Contains now (k.1 ++ q ∷ [])
       child q viable =
           let within = All-contains (λ n. n < length t.hold.positions) (k.1 ++ q ∷ []) q (IsSound-within t (k.1 ++ q ∷ []) viable.sound) (Contains-push k.1 q) in
-          Contains-permutation (offspring ++ old) now (k.1 ++ q ∷ []) all_known
-          (Contains-append_left offspring old (k.1 ++ q ∷ []) (adds.are.every q within viable))
+          Contains-permutation (prefixes children ++ old) now (k.1 ++ q ∷ []) all_known
+          (Contains-append_left (prefixes children) old (k.1 ++ q ∷ []) (adds.are.every q within viable))
 
-      next : (p : List ℕ) → Contains offspring p → (q : ℕ) × (p ≡ k.1 ++ q ∷ [])
+      next : (p : List ℕ) → Contains (prefixes children) p → (q : ℕ) × (p ≡ k.1 ++ q ∷ [])
       next p inside =
-          let is = All-contains (IsNext k.1 (length t.hold.positions)) offspring p adds.are.next inside in
+          let is = All-contains (IsNext k.1 (length t.hold.positions)) (prefixes children) p adds.are.next inside in
           (is.0, is.2)
 
-      parent : (prefix : List ℕ) (q : ℕ) → Contains offspring (prefix ++ q ∷ []) → k.1 ≡ prefix
+      parent : (prefix : List ℕ) (q : ℕ) → Contains (prefixes children) (prefix ++ q ∷ []) → k.1 ≡ prefix
       parent prefix q inside =
           let is = next (prefix ++ q ∷ []) inside in
           sym (last-same prefix k.1 q is.0 is.1).0
 
       -- no child was known before
-      fresh : (p : List ℕ) → Contains offspring p → Contains old p → ⊥
+      fresh : (p : List ℕ) → Contains (prefixes children) p → Contains old p → ⊥
       fresh p inside earlier =
           let is = next p inside in
           let taken_before : Contains taken k.1 = searched.parents k.1 is.0 (subst (Contains old) is.1 earlier) in
           let waits : Contains (prefixes queue) k.1 = Contains-permutation (k.1 ∷ prefixes rest) (prefixes queue) k.1
           (IsPermutation-sym (prefixes queue) (k.1 ∷ prefixes rest) (IsPermutation-map (λ (e : Key). e.1) queue (k ∷ rest) moved)) (Contains-cons k.1 (prefixes rest)) in
-          apart-append taken (prefixes queue ++ before) k.1 (subst (AllPairs (λ p q. p ≢ q)) (append_assoc taken (prefixes queue) before) searched.different)
-          taken_before (Contains-append_left (prefixes queue) before k.1 waits)
+          apart-append taken (prefixes queue ++ turned) k.1 (subst (AllPairs (λ p q. p ≢ q)) (append_assoc taken (prefixes queue) turned) searched.different)
+          taken_before (Contains-append_left (prefixes queue) turned k.1 waits)
 
       below : (prefix : List ℕ) (b : ℕ) → Contains (k.1 ∷ taken) prefix → HasBound prefix b → All (λ e. IsAtMost (b, prefix) e) (children ++ rest)
       below prefix b inside is =
@@ -361,8 +344,5 @@ module _ (t : Problem) (HasBound : List ℕ → ℕ → Type 0) (laws : AreBound
         where
           after_parent : (e : Key) → Contains children e → IsAtMost k e
           after_parent e inside =
-              let own = All-contains (IsPrefix HasBound) children e adds.are.bounds inside in
-              let is = next e.1 (Contains-append_left (prefixes children) adds.turned e.1 (Contains-prefixes children e inside)) in
-              let front = front-at_most t HasBound laws k.1 (is.0 ∷ []) e.0 (subst (λ p. HasBound p e.0) is.1 own) in
-              let same : front.0 ≡ k.0 = laws.one k.1 front.0 k.0 front.1 here in
-              subst (λ e. IsAtMost k e) (ap (λ p. (e.0, p)) (sym is.1)) (subst (λ n. IsAtMost (n, k.1) (e.0, k.1 ++ is.0 ∷ [])) same front.2)
+              let is = next e.1 (Contains-prefixes children e inside) in
+              subst (λ p. IsAtMost k (e.0, p)) (sym is.1) (at_most-extension k.0 e.0 k.1 (is.0 ∷ []) (All-contains (λ (c : Key). k.0 ≤ c.0) children e adds.are.later inside))

@@ -1,4 +1,5 @@
 pub mod Bounds
 pub mod Keys
+pub mod Looks
 pub mod Promising
 pub mod Search

@@ -21,7 +21,7 @@ pub record IsPromisingAndIncomplete (t : Problem) (HasBound : List ℕ → ℕ �
   pub promising : IsPromising t HasBound prefix
   pub incomplete : IsIncomplete t prefix
 
--- a viable prefix that leaves containers and has no bound: a search turns back there without a look
+-- a viable prefix that leaves containers and has no bound: a search turns back there
 pub record HasNoBound (t : Problem) (HasBound : List ℕ → ℕ → Type 0) (prefix : List ℕ) : Type 0 where
   pub viable : IsViable t prefix
   pub incomplete : IsIncomplete t prefix

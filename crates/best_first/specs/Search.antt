@@ -1,5 +1,5 @@
 -- what a best-first search does at each step
-use Rattle.std.specs.Prelude.{◌≡◌, ◌≢◌, ◌⊎◌, ℕ, ◌<◌, List, [], ◌∷◌, ◌++◌, length, All, AllPairs, Contains, IsPermutation, Option, Some, None}
+use Rattle.std.specs.Prelude.{◌≡◌, ◌≢◌, ℕ, ◌<◌, ◌≤◌, List, [], ◌∷◌, ◌++◌, length, All, AllPairs, Contains, IsPermutation}
 use Rattle.hold_limits.specs.Problem.{Problem}
 use Rattle.hold_limits.specs.Placement.{Key, IsAtMost}
 use Rattle.hold_reach.specs.Reach.{IsViable}
@@ -7,9 +7,9 @@ use Rattle.certificate.specs.Good.{IsIncomplete}
 use Rattle.best_first.specs.Keys.{prefixes}
 use Rattle.best_first.specs.Promising.{HasNoBound}
 
--- a prefix with its own bound
-abbrev pub IsPrefix : (List ℕ → ℕ → Type 0) → Key → Type 0
-IsPrefix HasBound k = HasBound k.1 k.0
+-- the prefix may wait with these ticks
+abbrev pub IsWaiting : (List ℕ → ℕ → Type 0) → Key → Type 0
+IsWaiting MayWait k = MayWait k.1 k.0
 
 -- Children --------------------------------------------------------------------------------------
 
@@ -17,29 +17,19 @@ IsPrefix HasBound k = HasBound k.1 k.0
 abbrev pub IsNext : List ℕ → ℕ → List ℕ → Type 0
 IsNext front number prefix = (q : ℕ) × (q < number) × (prefix ≡ front ++ q ∷ [])
 
--- the viable prefixes that are the front with one more number below this one, each once: those with a bound, and those without one
--- that leave containers
-pub record AreChildren (t : Problem) (HasBound : List ℕ → ℕ → Type 0) (front : List ℕ) (number : ℕ) (children : List Key) (turned : List (List ℕ)) : Type 0 where
-  pub bounds : All (IsPrefix HasBound) children
-  pub none : All (HasNoBound t HasBound) turned
-  pub next : All (IsNext front number) (prefixes children ++ turned)
-  pub different : AllPairs (λ p q. p ≢ q) (prefixes children ++ turned)
-  pub every : (q : ℕ) → q < number → IsViable t (front ++ q ∷ []) → Contains (prefixes children ++ turned) (front ++ q ∷ [])
+-- the viable prefixes that are the front with one more number below this one, each once, with at least so many ticks
+pub record AreChildren (t : Problem) (MayWait : List ℕ → ℕ → Type 0) (front : List ℕ) (bound number : ℕ) (children : List Key) : Type 0 where
+  pub waiting : All (IsWaiting MayWait) children
+  pub later : All (λ (k : Key). bound ≤ k.0) children
+  pub next : All (IsNext front number) (prefixes children)
+  pub different : AllPairs (λ p q. p ≢ q) (prefixes children)
+  pub every : (q : ℕ) → q < number → IsViable t (front ++ q ∷ []) → Contains (prefixes children) (front ++ q ∷ [])
 
--- the new queue has those with a bound beside what the old one had, and those without one are noted beside what was noted before
-pub record AddsChildren (t : Problem) (HasBound : List ℕ → ℕ → Type 0) (front : List ℕ) (number : ℕ) (old new : List Key) (before after : List (List ℕ)) : Type 0 where
+-- the new queue has those beside what the old one had
+pub record AddsChildren (t : Problem) (MayWait : List ℕ → ℕ → Type 0) (front : List ℕ) (bound number : ℕ) (old new : List Key) : Type 0 where
   pub children : List Key
-  pub turned : List (List ℕ)
-  pub are : AreChildren t HasBound front number children turned
+  pub are : AreChildren t MayWait front bound number children
   pub added : IsPermutation (children ++ old) new
-  pub noted : IsPermutation (turned ++ before) after
-
--- One prefix ------------------------------------------------------------------------------------
-
--- a prefix is taken up: with its bound, if it has one, it is added to the queue; else it is noted where it is viable
-abbrev pub IsTakenUp : Problem → List ℕ → Option ℕ → List Key → List Key → List (List ℕ) → List (List ℕ) → Type 0
-IsTakenUp t prefix (Some b) old new before after = IsPermutation ((b, prefix) ∷ old) new × (after ≡ before)
-IsTakenUp t prefix None old new before after = (new ≡ old) × ((IsViable t prefix × (after ≡ before ++ prefix ∷ [])) ⊎ ((IsViable t prefix → ⊥) × (after ≡ before)))
 
 -- The whole search ------------------------------------------------------------------------------
 
@@ -47,11 +37,11 @@ IsTakenUp t prefix None old new before after = (new ≡ old) × ((IsViable t pre
 abbrev pub known : List (List ℕ) → List Key → List (List ℕ) → List (List ℕ)
 known taken queue turned = (taken ++ prefixes queue) ++ turned
 
--- a search has taken some prefixes from its queue, others wait there, and at some it turned back without a look
-pub record IsSearched (t : Problem) (HasBound : List ℕ → ℕ → Type 0) (taken : List (List ℕ)) (queue : List Key) (turned : List (List ℕ)) : Type 0 where
-  -- the first two have bounds, the others have none, and no prefix comes twice
+-- a search has taken some prefixes from its queue, others wait there, and at some it turned back
+pub record IsSearched (t : Problem) (HasBound MayWait : List ℕ → ℕ → Type 0) (taken : List (List ℕ)) (queue : List Key) (turned : List (List ℕ)) : Type 0 where
+  -- the first have bounds, the last have none, and no prefix comes twice
   pub bounded : All (λ p. (b : ℕ) × HasBound p b) taken
-  pub waiting : All (IsPrefix HasBound) queue
+  pub waiting : All (IsWaiting MayWait) queue
   pub none : All (HasNoBound t HasBound) turned
   pub different : AllPairs (λ p q. p ≢ q) (known taken queue turned)
   -- those that were taken leave containers, and come before those that wait
@@ -63,6 +53,19 @@ pub record IsSearched (t : Problem) (HasBound : List ℕ → ℕ → Type 0) (ta
   -- no others are known
   pub parents : (prefix : List ℕ) (q : ℕ) → Contains (known taken queue turned) (prefix ++ q ∷ []) → Contains taken prefix
 
+-- what was taken before is so still, with another queue, and with other prefixes at which the search turned back
+abbrev pub StaysSearched : Problem → (List ℕ → ℕ → Type 0) → (List ℕ → ℕ → Type 0) → List Key → List Key → List (List ℕ) → List (List ℕ) → Type 0
+StaysSearched t HasBound MayWait old new before after = (taken : List (List ℕ)) → IsSearched t HasBound MayWait taken old before → IsSearched t HasBound MayWait taken new after
+
+-- a prefix waited with its own bound, the least of a queue with which what was taken before is so still: it was taken out, and the new
+-- queue is left
+pub record IsFirst (t : Problem) (HasBound MayWait : List ℕ → ℕ → Type 0) (first : Key) (old new : List Key) (before after : List (List ℕ)) : Type 0 where
+  pub queue : List Key
+  pub stays : StaysSearched t HasBound MayWait old queue before after
+  pub bound : HasBound first.1 first.0
+  pub moved : IsPermutation queue (first ∷ new)
+  pub least : All (λ k. IsAtMost first k) new
+
 -- a search has taken this many prefixes from its queue, others wait there, and at some it turned back
-abbrev pub HasTaken : Problem → (List ℕ → ℕ → Type 0) → ℕ → List Key → List (List ℕ) → Type 0
-HasTaken t HasBound number queue turned = (taken : List (List ℕ)) × IsSearched t HasBound taken queue turned × (length taken ≡ number)
+abbrev pub HasTaken : Problem → (List ℕ → ℕ → Type 0) → (List ℕ → ℕ → Type 0) → ℕ → List Key → List (List ℕ) → Type 0
+HasTaken t HasBound MayWait number queue turned = (taken : List (List ℕ)) × IsSearched t HasBound MayWait taken queue turned × (length taken ≡ number)

@@ -1,51 +1,59 @@
 //! How a search looks ahead.
 
-ghost use Rattle.std.specs.Prelude.{◌≡◌, ℕ, ◌<◌, ◌≤ℤ◌, List, IfSome, IfNone, length};
+ghost use Rattle.std.specs.Prelude.{◌≡◌, ℕ, ◌<◌, ◌≤◌, ◌≤ℤ◌, IfOk, List, [], ◌∷◌, ◌++◌, length};
 ghost use Rattle.std.specs.Result.{OnOk};
 ghost use Rattle.hold_limits.specs.Problem.{Problem};
-ghost use Rattle.best_first.specs.Bounds.{AreBounds};
-ghost use Rattle.best_first.specs.Search.{AddsChildren};
+ghost use Rattle.best_first.specs.Bounds.{AreBounds, HasReachBound};
+ghost use Rattle.best_first.specs.Looks.{Shows};
 
-use crate::queue::Queue;
-use crate::taking::take_up;
-use crate::turned::Turned;
 use base_words::NoMemory;
 use hold_partial::Partial;
 
-/// A way to tell how near the ideal the paths that begin with a prefix can come.
-pub trait Horizon {
+/// What a closer look at a prefix that waits shows.
+#[derive(Clone, Copy, Debug)]
+pub enum Look {
+    /// It waited with its own bound.
+    Settled,
+    /// It has to wait with more ticks, with so many.
+    Later(u64),
+    /// It has no bound.
+    TurnedBack,
+}
+
+/// A way to tell how near the ideal the paths that begin with a prefix can come. It may keep what it sees for later looks.
+pub trait Horizon<'a> {
     // The prefix of the task is worth a look, and no path that begins with it comes nearer the ideal than so many ticks.
     ghost has_bound: { Problem → List ℕ → ℕ → Type 0 };
 
-    /// The bound of the placement's prefix, in ticks. None where it has none.
-    fn bound(partial: &Partial<'_>) -> Option<u64>
-        ensures found { IfSome result (has_bound partial.now.task partial.now.prefix) }
-        ensures none { IfNone result ((b : ℕ) → has_bound partial.now.task partial.now.prefix b → ⊥) };
+    // The viable prefix may wait with so many ticks: its bound, if it has one, is no less.
+    ghost may_wait: { Problem → List ℕ → ℕ → Type 0 };
 
-    /// Looks at the viable prefixes that are the placement's with one number more: adds those with a bound to the queue,
-    /// and notes those without one that leave containers. The placement may move meanwhile.
-    fn add_children(
-        partial: &mut Partial<'_>,
-        queue: &mut Queue,
-        turned: &mut Turned,
-    ) -> Result<(), NoMemory>
-        requires { length partial.old.prefix < length partial.old.task.items }
-        ensures task { OnOk result (partial.new.task ≡ partial.old.task) }
-        ensures children { OnOk result (AddsChildren partial.old.task (has_bound partial.old.task)
-            partial.old.prefix (length partial.old.task.hold.positions)
-            queue.old queue.new turned.old turned.new) }
-    {
-        Self::laws();
-        for number in 0..partial.task().hold().position_count() {
-            if let Ok(()) = partial.try_place(number) {
-                take_up(partial, Self::bound(partial), queue, turned)?;
-                partial.undo();
-            }
-        }
-        Ok(())
-    }
+    // What was kept is of this task.
+    ghost serves: { Self → Problem → Type 0 };
+
+    // The last look was at this prefix, and found its bound.
+    ghost is_at: { Self → Problem → List ℕ → Type 0 };
+
+    /// Looks closer at the placement's prefix, which waited with so many ticks.
+    fn look(&mut self, partial: &Partial<'a>, waited: u64) -> Result<Look, NoMemory>
+        requires serves { serves self.old partial.now.task }
+        requires waits { may_wait partial.now.task partial.now.prefix waited }
+        ensures serves { OnOk result (serves self.new partial.now.task) }
+        ensures shown { IfOk result (Shows (has_bound partial.now.task partial.now.prefix)
+            (may_wait partial.now.task partial.now.prefix)
+            (is_at self.new partial.now.task partial.now.prefix) waited) };
+
+    /// With how many ticks the placement's prefix with this number more may wait: at least as many as its own bound. The
+    /// last look was at the placement's prefix, and the longer prefix is viable and has this reach bound, in ticks.
+    fn wait_on(&self, partial: &Partial<'a>, bound: u64, number: u8, reach: u64) -> u64
+        requires at { is_at self.now partial.now.task partial.now.prefix }
+        requires short { length partial.now.prefix < length partial.now.task.items }
+        requires bound { has_bound partial.now.task partial.now.prefix bound }
+        requires reach { HasReachBound partial.now.task (partial.now.prefix ++ number ∷ []) reach }
+        ensures waits { may_wait partial.now.task (partial.now.prefix ++ number ∷ []) result }
+        ensures later { bound ≤ result };
 
     /// Does nothing. Its contract says that a search by these bounds finds the best path.
     fn laws()
-        ensures { (t : Problem) → t.ideal_low ≤ℤ t.ideal_high → AreBounds t (has_bound t) };
+        ensures { (t : Problem) → t.ideal_low ≤ℤ t.ideal_high → AreBounds t (has_bound t) (may_wait t) };
 }

@@ -1,19 +1,8 @@
 //! Paths that are made of others.
 
-ghost use Rattle.std.specs.Prelude.{◌≡◌, ◌<◌, ◌≤◌, ◌++◌, ◌∷◌, [], length};
+ghost use Rattle.std.specs.Prelude.{◌≡◌, ◌<◌, ◌++◌, ◌∷◌, [], length};
 
 use hold_limits::Path;
-
-/// The numbers as a path.
-pub fn path_of(prefix: &[u8]) -> Path
-    requires { length prefix.now ≤ 60 }
-    ensures { result.items ≡ prefix.now }
-{
-    match Path::try_from(prefix) {
-        Ok(path) => path,
-        Err(_) => unreachable!(),
-    }
-}
 
 /// The numbers with one more.
 pub fn longer(prefix: &[u8], number: u8) -> Path

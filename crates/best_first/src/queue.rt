@@ -1,6 +1,6 @@
 //! The prefixes that a best-first search has still to look at, least first.
 
-ghost use Rattle.std.specs.Prelude.{◌≡◌, ◌↔◌, [], ◌∷◌, ◌++◌, All, IfNone, IfOk, IfSome, IsPermutation, IsSorted, IsTrue, List, length, map, nat_lt};
+ghost use Rattle.std.specs.Prelude.{◌≡◌, [], ◌∷◌, ◌++◌, All, IfNone, IfOk, IfSome, IsPermutation, IsSorted, List, length, map, nat_lt};
 ghost use Rattle.std.specs.List.{filter};
 ghost use Rattle.std.specs.Ordering.{nat_cmp};
 ghost use Rattle.std.specs.Cmp.Lexicographic.{slice_cmp};
@@ -16,7 +16,7 @@ use std::cmp::Reverse;
 use std::collections::BinaryHeap;
 use std::marker::Model;
 
-/// A prefix, with its bound in ticks. They are ordered by bound, and equal bounds by path order.
+/// A prefix, with the ticks with which it waits. They are ordered by ticks, and equal ticks by path order.
 #[derive(PartialEq, Eq, PartialOrd, Ord, Drop)]
 pub struct Waiting {
     pub bound: u64,
@@ -48,7 +48,7 @@ fn in_path_order(mut paths: Vec<Path>) -> Vec<Path>
     paths
 }
 
-/// Prefixes with their bounds, from which the least is taken.
+/// Prefixes with their ticks, from which the least is taken.
 #[derive(Drop)]
 pub struct Queue {
     heap: BinaryHeap<Reverse<Waiting>>,
@@ -99,13 +99,6 @@ impl Queue {
     {
         let Reverse(waiting) = self.heap.pop()?;
         Some(waiting)
-    }
-
-    /// Whether there is no prefix.
-    pub fn is_empty(&self) -> bool
-        ensures { IsTrue result ↔ (self.now ≡ []) }
-    {
-        self.heap.is_empty()
     }
 
     /// The paths with the prefixes that have fewer than `complete` numbers, in path order.

@@ -1,4 +1,4 @@
-//! The prefixes at which a search turns back without a look.
+//! The prefixes at which a search turns back since they have no bound.
 
 ghost use Rattle.std.specs.Prelude.{◌≡◌, [], ◌∷◌, ◌++◌};
 ghost use Rattle.std.specs.Result.{OnOk, OnErr};

@@ -15,7 +15,7 @@ use Rattle.best_first.specs.Promising.{IsPromising, IsPromisingAndIncomplete, Ha
 use Rattle.best_first.proofs.FrontLemmas.{bound-exists}
 use Rattle.best_first.proofs.BoundLemmas.{empty-promising}
 use Rattle.placer.specs.Near.{IsNear, IsNearAndIncomplete, IsNearCut, IsNearCertificate}
-use Rattle.placer.specs.ReachBounds.{HasReachBound}
+use Rattle.best_first.specs.Bounds.{HasReachBound}
 use Rattle.placer.proofs.ReachLemmas.{reach-bounds}
 
 module _ (t : Problem) where
@@ -44,7 +44,7 @@ module _ (t : Problem) where
         (λ (none : prefix ≡ []).
         let viable : IsViable t [] = subst (IsViable t) none left.viable in
         let here = bound-exists t [] viable in
-        absurd (left.unpromising (subst (IsPromising t (HasReachBound t)) (sym none) (empty-promising t (HasReachBound t) (reach-bounds t band) here.0 (viable, here.1)))))
+        absurd (left.unpromising (subst (IsPromising t (HasReachBound t)) (sym none) (empty-promising t (HasReachBound t) (HasReachBound t) (reach-bounds t band) here.0 (viable, here.1)))))
         (λ (parent : HasPromisingParent t (HasReachBound t) prefix). (parent.0, parent.1, parent.2, promising-near parent.0 parent.3))
         left.reached;
   }

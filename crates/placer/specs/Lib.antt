@@ -1,4 +1,3 @@
 pub mod Answers
 pub mod Near
-pub mod ReachBounds
 pub mod AnswerText

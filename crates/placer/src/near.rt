@@ -39,7 +39,7 @@ pub fn near_certificate(
     ensures over { IfOk result (λ found. IfNone found (AreMoreThan (IsNear task.now) budget)) }
 {
     let _lawful = task.items();
-    match search::<Reach>(alloc, task, budget)? {
+    match search(alloc, task, Reach, budget)? {
         Some(found) => Ok(Some(certificate_of(found))),
         None => Ok(None),
     }

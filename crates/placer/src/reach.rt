@@ -1,36 +1,32 @@
 //! How the search looks ahead: by the reach of each prefix.
 
-ghost use Rattle.std.specs.Prelude.{◌≡◌};
-
 use base_words::NoMemory;
-use best_first::{Horizon, Queue, Turned, Waiting, longer};
+use best_first::{Horizon, Look};
 use hold_partial::Partial;
 
-/// Each viable prefix has the bound that its reach gives, so none is turned back from without a look.
+/// Each viable prefix has the bound that its reach gives, and waits with it.
+#[derive(Drop)]
 pub struct Reach;
 
-impl Horizon for Reach {
-    ghost use Rattle.placer.specs.ReachBounds.{HasReachBound};
+impl<'a> Horizon<'a> for Reach {
+    ghost use Rattle.std.specs.Prelude.{⊤};
+    ghost use Rattle.best_first.specs.Bounds.{HasReachBound};
 
     ghost has_bound = { HasReachBound };
 
-    fn bound(partial: &Partial<'_>) -> Option<u64> {
-        partial.viable_bound()
+    ghost may_wait = { HasReachBound };
+
+    ghost serves = { λ _ _. ⊤ };
+
+    ghost is_at = { λ _ _ _. ⊤ };
+
+    fn look(&mut self, _partial: &Partial<'a>, _waited: u64) -> Result<Look, NoMemory> {
+        Ok(Look::Settled)
     }
 
-    fn add_children(
-        partial: &mut Partial<'_>,
-        queue: &mut Queue,
-        _turned: &mut Turned,
-    ) -> Result<(), NoMemory> {
-        let outlook = partial.outlook();
-        for number in 0..partial.task().hold().position_count() {
-            if let Some(bound) = outlook.bound_on(number) {
-                let prefix = longer(partial.prefix(), number);
-                queue.add(Waiting { bound, prefix })?;
-            }
-        }
-        Ok(())
+    fn wait_on(&self, partial: &Partial<'a>, _bound: u64, _number: u8, reach: u64) -> u64 {
+        let _lawful = partial.task();
+        reach
     }
 
     fn laws() {}

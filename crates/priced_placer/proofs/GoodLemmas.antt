@@ -23,6 +23,7 @@ use Rattle.priced_certificate.specs.declared.parts.PricedCut.{PricedCut}
 use Rattle.priced_certificate.specs.declared.parts.PricedCertificate.{PricedCertificate}
 use Rattle.priced_checker.specs.Good.{prefix_of, prefixes_of, IsPriced, IsBeyond, IsIdle, IsGoodPriced}
 use Rattle.priced_placer.specs.PriceNear.{HasTightBound, IsPriceNearAndIncomplete, IsPriceNearCertificate, IsTightlyPriced}
+use Rattle.priced_placer.specs.Waits.{MayWaitTightly}
 use Rattle.priced_placer.proofs.TightBounds.{tight-bounds}
 use Rattle.priced_placer.proofs.PriceNearLemmas.{left-cut, cut-left, near-exactly}
 
@@ -61,10 +62,10 @@ module _ (t : Problem) (band : t.ideal_low ≤ℤ t.ideal_high) where
   met-beyond : (claim : Option (List ℕ)) (prefix : List ℕ) (ends : ℤ × ℤ) → MatchOption claim (HasNoPlacement t) (IsBest t) → IsLeft t (HasTightBound t) prefix → IsTightReach t prefix (Some ends)
       → Meets t.low t.high (Some ends) → IsBeyond t claim prefix ends
   met-beyond None prefix ends none left reach meets =
-      absurd (left-none t (HasTightBound t) (tight-bounds t band) prefix (gap_to_ideal t ends) left
+      absurd (left-none t (HasTightBound t) (MayWaitTightly t) (tight-bounds t band) prefix (gap_to_ideal t ends) left
       (record { viable = left.viable; ends = ends; reach = reach; window = meets; is = refl }) none)
   met-beyond (Some best) prefix ends of_task left reach meets =
-      inr (left-above t (HasTightBound t) (tight-bounds t band) prefix (gap_to_ideal t ends) best left
+      inr (left-above t (HasTightBound t) (MayWaitTightly t) (tight-bounds t band) prefix (gap_to_ideal t ends) best left
       (record { viable = left.viable; ends = ends; reach = reach; window = meets; is = refl }) of_task)
 
   -- prices whose span is the tight reach show that nothing better begins with what is left
@@ -115,7 +116,7 @@ module _ (t : Problem) (found : Found) (c : PricedCertificate) (is : IsFoundFor 
       subst (λ claim. Covers t (claimed claim) (prefixes_of c.cuts) c.expanded) (sym of_found.claim)
       (subst (λ cuts. Covers t (claimed found.claim) cuts c.expanded) (sym of_found.cuts)
       (subst (λ n. Covers t (claimed found.claim) (paths_of found.cuts.items) n) (sym of_found.expanded)
-      (Covers-found t (HasTightBound t) (tight-bounds t band) found is)))
+      (Covers-found t (HasTightBound t) (MayWaitTightly t) (tight-bounds t band) found is)))
 
   pub good-found : t.ideal_low ≤ℤ t.ideal_high → IsGoodPriced t (claimed c.claim) c.cuts c.expanded
   good-found band = record {

@@ -1,4 +1,5 @@
 pub mod TightBounds
+pub mod LookLemmas
 pub mod NearLaws
 pub mod PricedCuts
 pub mod PriceNearLemmas

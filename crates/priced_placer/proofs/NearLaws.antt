@@ -1,5 +1,5 @@
 -- price-near prefixes are near, since the tight reach lies in the reach
-use Rattle.std.proofs.Common.{◌≡◌, ℕ, ◌≤◌, ℤ, ◌≤ℤ◌, false, List, Option, Some, None, option_map, sym, ap, subst, arith, is_gt, Ordering, nat_cmp}
+use Rattle.std.proofs.Common.{◌≡◌, ℕ, ◌≤◌, ◌≤ℤ◌, false, List, Option, Some, None, ap, arith, is_gt, Ordering, nat_cmp}
 use Rattle.std.proofs.lemmas.Bool.Decides.{nat_tests}
 use Rattle.std.proofs.lemmas.Cmp.{nat_list_cmp_total, tied_itself}
 use Rattle.std.proofs.lemmas.List.Elements.{All-weaker}
@@ -9,13 +9,11 @@ use Rattle.std.specs.Cmp.Lexicographic.{slice_cmp}
 use Rattle.hold_limits.specs.Problem.{Problem}
 use Rattle.hold_limits.specs.Placement.{Key, IsAtMost, key}
 use Rattle.hold_limits.proofs.KeyOrder.{IsAtMost-trans}
-use Rattle.hold_reach.specs.Reach.{reach, gap_to_ideal, bound}
-use Rattle.hold_reach.specs.Choices.{LiesIn}
-use Rattle.assignment_prices.proofs.WayLemmas.{tight-lies}
+use Rattle.hold_reach.specs.Reach.{bound}
 use Rattle.certificate.specs.Good.{AreAtMost}
 use Rattle.placer.specs.Near.{IsNear}
-use Rattle.priced_placer.specs.PriceNear.{HasTightBound, IsPriceNear}
-use Rattle.priced_placer.proofs.TightBounds.{tight-in_order, gap-wider}
+use Rattle.priced_placer.specs.PriceNear.{IsPriceNear}
+use Rattle.priced_placer.proofs.TightBounds.{bound-at_most}
 
 -- with the same numbers, the key with the lesser bound is at most the other
 lesser-at_most : (m n : ℕ) (prefix : List ℕ) → m ≤ n → IsAtMost (m, prefix) (n, prefix)
@@ -23,15 +21,6 @@ lesser-at_most m n prefix less = not_greater m n (slice_cmp nat_cmp prefix prefi
   where
     not_greater : (m n : ℕ) (o : Ordering) → m ≤ n → is_gt o ≡ false → is_gt (ordering_then (nat_cmp m n) o) ≡ false
     not_greater m n o less not = grind (arith, nat_tests)
-
--- the bound of the reach is at most the tight one
-bound-at_most : (t : Problem) (prefix : List ℕ) (b : ℕ) → t.ideal_low ≤ℤ t.ideal_high → HasTightBound t prefix b → IsSomeAnd (bound t prefix) (λ a. a ≤ b)
-bound-at_most t prefix b band has =
-    subst (λ n. IsSomeAnd (bound t prefix) (λ a. a ≤ n)) (sym has.is) (wider (reach t prefix) (tight-lies t prefix has.ends has.reach))
-  where
-    wider : (reached : Option (ℤ × ℤ)) → IsSomeAnd reached (LiesIn has.ends) → IsSomeAnd (option_map (gap_to_ideal t) reached) (λ a. a ≤ gap_to_ideal t has.ends)
-    wider None lies = absurd lies
-    wider (Some outer) lies = gap-wider t has.ends outer band (tight-in_order t prefix has.ends has.reach) lies
 
 pub price_near-near : (t : Problem) (prefix : List ℕ) → t.ideal_low ≤ℤ t.ideal_high → IsPriceNear t prefix → IsNear t prefix
 price_near-near t prefix band near = record {

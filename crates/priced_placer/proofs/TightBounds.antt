@@ -1,18 +1,19 @@
 -- the bounds that the tight reach of prefixes gives find the best path
-use Rattle.std.proofs.Common.{refl, ◌≡◌, ℕ, ◌≤◌, ℤ, ◌≤ℤ◌, List, [], ◌∷◌, ◌++◌, length, Option, Some, None, sym, ap, ap₂, ◌∙◌, subst, arith}
+use Rattle.std.proofs.Common.{refl, ◌≡◌, ℕ, ◌≤◌, ℤ, ◌≤ℤ◌, List, [], ◌∷◌, ◌++◌, length, Option, Some, None, option_map, sym, ap, ap₂, ◌∙◌, subst, arith}
 use Rattle.std.proofs.lemmas.Int.{ints}
-use Rattle.std.specs.Prelude.{IfNone}
+use Rattle.std.specs.Prelude.{IfNone, IsSomeAnd}
 use Rattle.hold_limits.specs.Problem.{Problem}
 use Rattle.hold_limits.specs.Placement.{distance, hold_index}
-use Rattle.hold_reach.specs.Reach.{IsViable, HaveCommonNumber, Meets, gap_to_ideal}
+use Rattle.hold_reach.specs.Reach.{IsViable, HaveCommonNumber, Meets, bound, gap_to_ideal, reach}
 use Rattle.hold_reach.specs.Choices.{LiesIn, IsNearest}
 use Rattle.hold_reach.proofs.ViableLemmas.{gap-nearest, IsAdmissible-from_viable}
 use Rattle.assignment_prices.specs.TightReach.{AllowsTightly, IsTightReach}
-use Rattle.assignment_prices.proofs.WayLemmas.{allows-shorter, complete-tight}
+use Rattle.assignment_prices.proofs.WayLemmas.{allows-shorter, complete-tight, tight-lies}
 use Rattle.assignment_prices.proofs.LeastWay.{tight-exists}
-use Rattle.best_first.specs.Bounds.{AreBounds}
+use Rattle.best_first.specs.Bounds.{AreBounds, HasReachBound}
 use Rattle.best_first.proofs.FrontLemmas.{IsViable-shorter}
 use Rattle.priced_placer.specs.PriceNear.{HasTightBound}
+use Rattle.priced_placer.specs.Waits.{MayWaitTightly}
 
 -- Tight reaches ---------------------------------------------------------------------------------
 
@@ -54,7 +55,7 @@ gap-wider t inner outer band rising lies =
     subst (λ n. gap_to_ideal t outer ≤ n) near.is
     (far.least near.index (omega (arith, ints, lies.0, near.inside.0), omega (arith, ints, lies.1, near.inside.1)))
 
-common-wider : (low high : ℤ) (inner outer : ℤ × ℤ) → LiesIn inner outer → HaveCommonNumber inner.0 inner.1 low high → HaveCommonNumber outer.0 outer.1 low high
+pub common-wider : (low high : ℤ) (inner outer : ℤ × ℤ) → LiesIn inner outer → HaveCommonNumber inner.0 inner.1 low high → HaveCommonNumber outer.0 outer.1 low high
 common-wider low high inner outer lies common = record {
   number = common.number;
   from_a = omega (arith, ints, lies.0, common.from_a);
@@ -72,7 +73,7 @@ pub one-bound : (t : Problem) (prefix : List ℕ) (a b : ℕ) → HasTightBound 
 one-bound t prefix a b first second =
     first.is ∙ ap (gap_to_ideal t) (one-tight t prefix first.ends second.ends first.reach second.reach) ∙ sym second.is
 
-bound-narrows : (t : Problem) (prefix : List ℕ) (q b : ℕ) → t.ideal_low ≤ℤ t.ideal_high → HasTightBound t (prefix ++ q ∷ []) b → (a : ℕ) × HasTightBound t prefix a × (a ≤ b)
+pub bound-narrows : (t : Problem) (prefix : List ℕ) (q b : ℕ) → t.ideal_low ≤ℤ t.ideal_high → HasTightBound t (prefix ++ q ∷ []) b → (a : ℕ) × HasTightBound t prefix a × (a ≤ b)
 bound-narrows t prefix q b band is =
     let outer = tight-shorter t prefix q is.ends is.viable is.reach in
     let rising = tight-in_order t (prefix ++ q ∷ []) is.ends is.reach in (
@@ -111,10 +112,29 @@ missed-none t prefix ends (Some b) reach missed = tt
 missed-none t prefix ends None reach missed =
     λ b is. missed (subst (λ span. Meets t.low t.high (Some span)) (one-tight t prefix is.ends ends is.reach reach) is.window)
 
-pub tight-bounds : (t : Problem) → t.ideal_low ≤ℤ t.ideal_high → AreBounds t (HasTightBound t)
+-- the bound of the reach is at most the tight one
+pub bound-at_most : (t : Problem) (prefix : List ℕ) (b : ℕ) → t.ideal_low ≤ℤ t.ideal_high → HasTightBound t prefix b → IsSomeAnd (bound t prefix) (λ a. a ≤ b)
+bound-at_most t prefix b band has =
+    subst (λ n. IsSomeAnd (bound t prefix) (λ a. a ≤ n)) (sym has.is) (wider (reach t prefix) (tight-lies t prefix has.ends has.reach))
+  where
+    wider : (reached : Option (ℤ × ℤ)) → IsSomeAnd reached (LiesIn has.ends) → IsSomeAnd (option_map (gap_to_ideal t) reached) (λ a. a ≤ gap_to_ideal t has.ends)
+    wider None lies = absurd lies
+    wider (Some outer) lies = gap-wider t has.ends outer band (tight-in_order t prefix has.ends has.reach) lies
+
+-- a prefix may wait with the bound of its reach
+pub reach-waits : (t : Problem) (prefix : List ℕ) (b : ℕ) → t.ideal_low ≤ℤ t.ideal_high → HasReachBound t prefix b → MayWaitTightly t prefix b
+reach-waits t prefix b band has = record {
+  viable = has.0;
+  below = λ own is. subst (λ o. IsSomeAnd o (λ a. a ≤ own)) has.1 (bound-at_most t prefix own band is);
+}
+
+pub tight-bounds : (t : Problem) → t.ideal_low ≤ℤ t.ideal_high → AreBounds t (HasTightBound t) (MayWaitTightly t)
 tight-bounds t band = record {
   one = one-bound t;
   viable = λ prefix b is. is.viable;
   narrows = λ prefix q b is. bound-narrows t prefix q b band is;
   complete = bound-complete t;
+  waiting = λ prefix waited may. may.viable;
+  below = λ prefix waited b may is. may.below b is;
+  reach = λ prefix b has. reach-waits t prefix b band has;
 }

@@ -1,3 +1,4 @@
 pub mod PriceNear
+pub mod Waits
 pub mod Answers
 pub mod AnswerText

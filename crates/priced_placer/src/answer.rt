@@ -61,7 +61,7 @@ fn answer_of(certificate: PricedCertificate) -> PricedAnswer
 pub fn place_priced(alloc: Global, task: &Task, budget: u32) -> Result<PricedAnswer, NoMemory>
     ensures { IfOk result (IsPricedAnswerTo task.now budget) }
 {
-    match search::<OwnPositions>(alloc, task, budget)? {
+    match search(alloc, task, OwnPositions::new(alloc), budget)? {
         Some(found) => Ok(answer_of(certificate_of(alloc, task, found)?)),
         None => Ok(PricedAnswer::Budget(budget)),
     }

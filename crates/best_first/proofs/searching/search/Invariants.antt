@@ -5,5 +5,6 @@ use Rattle.best_first.proofs.searching.search.Given as goal
 abbrev pub invariant-loop-expanded : goal.invariant-loop-expanded
 invariant-loop-expanded g l = record {
   task : l.partial.task ≡ l.task;
-  taken : HasTaken l.task (g.H.Horizon.has_bound l.task) l.expanded l.queue l.turned;
+  serves : g.H.Horizon.serves l.horizon l.task;
+  taken : HasTaken l.task (g.H.Horizon.has_bound l.task) (g.H.Horizon.may_wait l.task) l.expanded l.queue l.turned;
 }

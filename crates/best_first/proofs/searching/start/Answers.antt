@@ -1,19 +1,22 @@
-use Rattle.std.proofs.Common.{ℕ, List, [], refl, subst}
-use Rattle.std.specs.Prelude.{IfNone, IfSome}
-use Rattle.best_first.specs.Search.{IsTakenUp}
-use Rattle.best_first.proofs.SearchLemmas.{IsSearched-taken_up}
+use Rattle.std.proofs.Common.{◌≡◌, inl, inr, ℕ, List, [], ◌∷◌, sym, subst, ◌∙◌}
+use Rattle.std.specs.Prelude.{IsPermutation}
+use Rattle.hold_limits.specs.Placement.{Key}
+use Rattle.hold_reach.specs.Reach.{IsViable}
+use Rattle.best_first.specs.Bounds.{HasReachBound}
+use Rattle.best_first.proofs.QueueLemmas.{one-alone}
 use Rattle.best_first.proofs.searching.start.Goals as goal
+use Rattle.best_first.proofs.searching.start.Goals.{in-Some+in_ok-add, in_default}
 
 pub returns : goal.returns
-returns g c =
+returns c =
     let t = c.args.partial.now.task in
-    let has : List ℕ → ℕ → Type 0 = g.H.Horizon.has_bound t in
-    let bound = c.bound.result in
-    let queue = c.take_up.new.queue in
-    let turned = c.take_up.new.turned in
-    let found = subst (λ p. IfSome bound (has p)) c.requires.empty c.bound.ensures.found in
-    let none = subst (λ p. IfNone bound ((b : ℕ) → has p b → ⊥)) c.requires.empty c.bound.ensures.none in
-    let taken = subst (λ before. IsTakenUp t [] bound [] queue before turned) c.new-turned.ensures
-    (subst (λ old. IsTakenUp t [] bound old queue c.new-turned.result turned) c.new-queue.ensures
-    (subst (λ p. IsTakenUp t p bound c.new-queue.result queue c.new-turned.result turned) c.requires.empty c.in_ok-take_up.ensures)) in
-    ([], IsSearched-taken_up t has c.requires.laws bound queue turned found none taken, refl)
+    let empty : c.args.partial.now.prefix ≡ [] = c.requires in
+    elim c.match-viable_bound.branch [
+      | in-Some+in_ok-add w ↦
+          let found : HasReachBound t [] w.in-Some.bound = subst (λ p. HasReachBound t p w.in-Some.bound) empty w.in-Some.ensures.found in
+          let first : Key = (w.in-Some.bound, w.new-prefix.result.items) in
+          let added : IsPermutation (first ∷ []) c.match-viable_bound.queue =
+          subst (λ new. IsPermutation (first ∷ []) new) (sym w.queue-is) (subst (λ old. IsPermutation (first ∷ old) w.add.new.self) c.new-queue.ensures w.in_ok-add.ensures.added) in
+          inl (found.0, (w.in-Some.bound, found, subst (λ (p : List ℕ). c.match-viable_bound.queue ≡ (w.in-Some.bound, p) ∷ []) w.new-prefix.ensures (one-alone first c.match-viable_bound.queue added)))
+      | in_default w ↦ inr (subst (λ p. IsViable t p → ⊥) empty w.in_default.ensures.none, w.queue-is ∙ c.new-queue.ensures)
+    ]

@@ -2,7 +2,7 @@ use Rattle.hold_reach.proofs.ViableLemmas.{band-in_order}
 use Rattle.best_first.specs.Promising.{IsFoundFor}
 use Rattle.certificate.specs.Good.{AreAtMost}
 use Rattle.best_first.specs.Promising.{IsPromising}
-use Rattle.placer.specs.ReachBounds.{HasReachBound}
+use Rattle.best_first.specs.Bounds.{HasReachBound}
 use Rattle.placer.proofs.NearLemmas.{IsNearCertificate-found, near-at_most}
 use Rattle.placer.proofs.GoodLemmas.{IsGood-found}
 use Rattle.placer.proofs.near.near_certificate.Goals as goal
