@@ -3,6 +3,8 @@
 #![tactic(auto)]
 
 #[cfg(test)]
+mod brackets;
+#[cfg(test)]
 mod plain_ways;
 #[cfg(test)]
 mod tight;
