@@ -1,0 +1,5 @@
+pub mod StayingLemmas
+pub mod FaultLemmas
+pub mod AdmissibleLemmas
+pub mod SortLemmas
+pub mod PartLemmas
