@@ -92,6 +92,7 @@ impl Draft {
     /// The draft of these candidates, if they are those after the first one of this draft, and no position is open for
     /// one that was not open before. Each keeps its position where that is still open, and the others get one if there is
     /// any.
+    #[inline(always)]
     pub fn after_first(&self, candidates: &[Candidate]) -> Option<Draft>
         ensures candidates { IfSome result (λ draft. draft.candidates ≡ candidates.now) }
         ensures influences { IfSome result (λ draft. draft.influences ≡ self.now.influences) }

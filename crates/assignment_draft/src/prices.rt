@@ -1,6 +1,6 @@
 //! Prices that bound what every way costs from below, and the three steps by which they move.
 
-ghost use Rattle.std.specs.Prelude.{◌≡◌, ◌<◌, ◌≤◌, ℕ, ℤ, pos, ◌+ℤ◌, ◌-ℤ◌, ◌≤ℤ◌, IsTrue, All, length, set};
+ghost use Rattle.std.specs.Prelude.{◌≡◌, [], ◌<◌, ◌≤◌, ℕ, ℤ, pos, ◌+ℤ◌, ◌-ℤ◌, ◌≤ℤ◌, IsTrue, All, length, set};
 ghost use Rattle.assignment.specs.Costs.{IsOrdinary};
 ghost use Rattle.assignment.specs.Prices.{price_at, total};
 ghost use Rattle.assignment.specs.Tables.{IsWithin, MayTake, cost_at};
@@ -35,27 +35,14 @@ fn repeated<const N: usize>(count: usize, price: i64) -> ArrayVec<i64, N>
     prices
 }
 
-/// A list of the same numbers.
-fn copied<const N: usize>(numbers: &[i64]) -> ArrayVec<i64, N>
-    requires { length numbers.now ≤ N }
-    ensures { result.items ≡ numbers.now }
+/// Puts these values into an empty list.
+fn fill<T: Copy, const N: usize>(list: &mut ArrayVec<T, N>, values: &[T])
+    requires empty { list.old.items ≡ [] }
+    requires room { length values.now ≤ N }
+    ensures { list.new.items ≡ values.now }
 {
-    let mut copy = ArrayVec::new();
-    match copy.try_extend_from_slice(numbers) {
-        Ok(()) => copy,
-        Err(_) => unreachable!(),
-    }
-}
-
-/// A list of the same candidates.
-fn copied_candidates(candidates: &[Candidate]) -> ArrayVec<Candidate, 60>
-    requires { length candidates.now ≤ 60 }
-    ensures { result.items ≡ candidates.now }
-{
-    let mut copy = ArrayVec::new();
-    match copy.try_extend_from_slice(candidates) {
-        Ok(()) => copy,
-        Err(_) => unreachable!(),
+    if list.try_extend_from_slice(values).is_err() {
+        unreachable!();
     }
 }
 
@@ -83,6 +70,21 @@ fn sum_of(prices: &[i64]) -> i64
 }
 
 impl Prices {
+    /// No prices yet.
+    fn empty() -> Prices
+        ensures candidates { result.candidates.items ≡ [] }
+        ensures influences { result.influences.items ≡ [] }
+        ensures items { result.items.items ≡ [] }
+        ensures places { result.places.items ≡ [] }
+    {
+        Prices {
+            candidates: ArrayVec::new(),
+            influences: ArrayVec::new(),
+            items: ArrayVec::new(),
+            places: ArrayVec::new(),
+        }
+    }
+
     /// Prices below all that candidates cost.
     pub fn new(candidates: &[Candidate], influences: &[i64]) -> Prices
         requires { IsOrdinary candidates.now influences.now }
@@ -90,12 +92,12 @@ impl Prices {
         ensures influences { result.influences.items ≡ influences.now }
         ensures sound { AreSound result }
     {
-        Prices {
-            candidates: copied_candidates(candidates),
-            influences: copied(influences),
-            items: repeated(candidates.len(), LEAST_COST),
-            places: repeated(influences.len(), 0),
-        }
+        let mut prices = Prices::empty();
+        fill(&mut prices.candidates, candidates);
+        fill(&mut prices.influences, influences);
+        prices.items = repeated(candidates.len(), LEAST_COST);
+        prices.places = repeated(influences.len(), 0);
+        prices
     }
 
     /// Whether the candidates are those after the first one, and no position is open for one that was not open before.
@@ -117,6 +119,7 @@ impl Prices {
     }
 
     /// The same prices without that of the first candidate.
+    #[inline(always)]
     pub fn after_first(&self, candidates: &[Candidate]) -> Prices
         requires sound { AreSound self.now }
         requires followed { AreAfterFirst self.now.candidates.items candidates.now }
@@ -124,12 +127,12 @@ impl Prices {
         ensures influences { result.influences.items ≡ self.now.influences.items }
         ensures sound { AreSound result }
     {
-        Prices {
-            candidates: copied_candidates(candidates),
-            influences: copied(self.influences.as_slice()),
-            items: copied(&self.items[1..]),
-            places: copied(self.places.as_slice()),
-        }
+        let mut prices = Prices::empty();
+        fill(&mut prices.candidates, candidates);
+        fill(&mut prices.influences, self.influences.as_slice());
+        fill(&mut prices.items, &self.items[1..]);
+        fill(&mut prices.places, self.places.as_slice());
+        prices
     }
 
     /// What a candidate costs on a position, in ticks.

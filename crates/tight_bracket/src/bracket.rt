@@ -78,6 +78,7 @@ fn draft_from_nothing(partial: &Partial<'_>, candidates: &Candidates, end: End) 
 }
 
 /// The draft for that end of what the placement leaves, from the other draft where its first candidate is placed now.
+#[inline(always)]
 fn draft_after(draft: &Draft, partial: &Partial<'_>, candidates: &Candidates, end: End) -> Draft
     requires candidates { AreCandidates partial.now.task partial.now.prefix candidates.now.items }
     requires influences { AreInfluences partial.now.task.hold end draft.now.influences }
@@ -91,6 +92,7 @@ fn draft_after(draft: &Draft, partial: &Partial<'_>, candidates: &Candidates, en
 
 impl<'a> Bracket<'a> {
     /// The bracket of the placement with these drafts.
+    #[inline(always)]
     fn with(partial: &Partial<'a>, low: Draft, high: Draft) -> Bracket<'a>
         requires low { IsDraftFor partial.now.task partial.now.prefix Low low }
         requires high { IsDraftFor partial.now.task partial.now.prefix High high }
