@@ -1,105 +1,44 @@
--- fronts of prefixes with bounds, and of promising ones
-use Rattle.std.proofs.Common.{refl, ◌≡◌, ℕ, ◌<◌, ◌≤◌, false, List, [], ◌∷◌, ◌++◌, length, sym, ap, subst, arith, append_assoc, append-nil, is_gt, Ordering, nat_cmp}
-use Rattle.std.proofs.lemmas.Bool.Decides.{nat_tests}
-use Rattle.std.proofs.lemmas.Cmp.{nat_cmp_total, tied_itself}
-use Rattle.std.specs.Ordering.{ordering_then}
-use Rattle.std.specs.Cmp.Lexicographic.{slice_cmp}
+-- the prefixes of a task can be searched by bounds of any kind
+use Rattle.std.proofs.Common.{ℕ, List, [], ◌∷◌, ◌++◌, sym, subst, append-nil}
+use Rattle.std.proofs.lemmas.List.Elements.{All-contains, Contains-push}
+use Rattle.std.specs.Prelude.{◌<◌, length}
 use Rattle.hold_limits.specs.Problem.{Problem}
-use Rattle.hold_limits.specs.Placement.{Key, IsAtMost, IsAdmissible, IsBest, key, distance}
+use Rattle.hold_limits.specs.Placement.{IsAdmissible, IsBest, distance}
 use Rattle.hold_limits.specs.Twins.{IsRising}
-use Rattle.hold_limits.proofs.KeyOrder.{IsAtMost-trans, IsAtMost-antisymm}
+use Rattle.hold_limits.proofs.EnumerationLemmas.{best_exists}
 use Rattle.hold_limits.proofs.ExchangeLemmas.{best-rises}
+use Rattle.hold_limits.proofs.SoundLemmas.{IsSound-within}
 use Rattle.hold_reach.specs.Reach.{IsViable}
-use Rattle.hold_reach.proofs.ViableLemmas.{IsViable-front}
-use Rattle.cert_checker.specs.Claims.{HasNoPlacement}
-use Rattle.best_first.specs.Bounds.{AreBounds}
-use Rattle.best_first.specs.Promising.{IsPromising, HasNoBound}
+use Rattle.hold_reach.proofs.ViableLemmas.{IsAdmissible-from_viable, IsViable-front}
+use Rattle.path_search.specs.Worlds.{IsSearchable}
+use Rattle.path_search.proofs.BoundLemmas as any
+use Rattle.best_first.specs.Bounds.{AreBounds, world_of}
+use Rattle.best_first.specs.Promising.{IsPromising}
 
--- Keys ------------------------------------------------------------------------------------------
-
--- a list precedes its extensions
-precedes-extension : (front rest : List ℕ) → is_gt (slice_cmp nat_cmp front (front ++ rest)) ≡ false
-precedes-extension [] [] = refl
-precedes-extension [] (q ∷ rest) = refl
-precedes-extension (x ∷ front) rest = rw (tied_itself nat_cmp_total x) (precedes-extension front rest)
-
--- a bound that is at most another, with a front of the prefix
-pub at_most-extension : (m n : ℕ) (front rest : List ℕ) → m ≤ n → IsAtMost (m, front) (n, front ++ rest)
-at_most-extension m n front rest less = not_greater m n (slice_cmp nat_cmp front (front ++ rest)) less (precedes-extension front rest)
-  where
-    not_greater : (m n : ℕ) (o : Ordering) → m ≤ n → is_gt o ≡ false → is_gt (ordering_then (nat_cmp m n) o) ≡ false
-    not_greater m n o less not = grind (arith, nat_tests)
-
--- as many ticks or more with the same numbers
-pub at_most-more : (m n : ℕ) (prefix : List ℕ) → m ≤ n → IsAtMost (m, prefix) (n, prefix)
-at_most-more m n prefix less = subst (λ p. IsAtMost (m, prefix) (n, p)) (append-nil prefix) (at_most-extension m n prefix [] less)
-
--- The best path ---------------------------------------------------------------------------------
-
-pub one_best : (t : Problem) (a b : List ℕ) → IsBest t a → IsBest t b → a ≡ b
-one_best t a b first second = ap (λ (k : Key). k.1) (IsAtMost-antisymm (key t a) (key t b) (first.least b second.admissible) (second.least a first.admissible))
-
-pub best-viable : (t : Problem) (best : List ℕ) → IsBest t best → IsViable t best
+best-viable : (t : Problem) (best : List ℕ) → IsBest t best → IsViable t best
 best-viable t best is = IsViable-front t best [] (subst (IsAdmissible t) (sym (append-nil best)) is.admissible) (subst (IsRising t) (sym (append-nil best)) (best-rises t best is))
 
--- Bounds ----------------------------------------------------------------------------------------
-
 module _ (t : Problem) (HasBound MayWait : List ℕ → ℕ → Type 0) (laws : AreBounds t HasBound MayWait) where
-  -- a front has a bound that, with its numbers, is at most that of the prefix
-  pub front-at_most : (front rest : List ℕ) (b : ℕ) → HasBound (front ++ rest) b → (a : ℕ) × HasBound front a × IsAtMost (a, front) (b, front ++ rest)
-  front-at_most front [] b is = (b, subst (λ p. HasBound p b) (append-nil front) is, at_most-extension b b front [] (omega arith))
-  front-at_most front (q ∷ rest) b is =
-      let joined = sym (append_assoc front (q ∷ []) rest) in
-      let next = front-at_most (front ++ q ∷ []) rest b (subst (λ p. HasBound p b) joined is) in
-      let here = laws.narrows front q next.0 next.1 in (
-        here.0,
-        here.1,
-        IsAtMost-trans (here.0, front) (next.0, front ++ q ∷ []) (b, front ++ q ∷ rest)
-            (at_most-extension here.0 next.0 front (q ∷ []) here.2)
-            (subst (λ p. IsAtMost (next.0, front ++ q ∷ []) (b, p)) (sym joined) next.2),
-      )
-
-  -- the bound of the best path is its distance
-  pub best-bound : (best : List ℕ) → IsBest t best → HasBound best (distance t best)
-  best-bound best is = laws.complete best (best-viable t best is) is.admissible.complete
-
-  -- a viable prefix without a bound leaves containers
-  pub viable-none : (prefix : List ℕ) → IsViable t prefix → ((b : ℕ) → HasBound prefix b → ⊥) → HasNoBound t HasBound prefix
-  viable-none prefix viable none = record {
-    viable = viable;
-    incomplete = less (length prefix) (length t.items) viable.sound.short (λ all. none (distance t prefix) (laws.complete prefix viable all));
-    none = none;
-  }
-    where
-      less : (m n : ℕ) → m ≤ n → (m ≡ n → ⊥) → m < n
-      less m n short differ = grind arith
-
-  -- Promising fronts ----------------------------------------------------------------------------
-
-  -- every front of a promising prefix is promising
-  pub IsPromising-begins : (front rest : List ℕ) → IsPromising t HasBound (front ++ rest) → IsPromising t HasBound front
-  IsPromising-begins front rest promising =
-      let here = front-at_most front rest promising.bound promising.is in
-      record {
-        bound = here.0;
-        is = here.1;
-        below = λ best of_task. IsAtMost-trans (here.0, front) (promising.bound, front ++ rest) (key t best) here.2 (promising.below best of_task);
-      }
-
-  -- where no path is admissible, a prefix with a bound is promising
-  pub promising-none : (prefix : List ℕ) (b : ℕ) → HasNoPlacement t → HasBound prefix b → IsPromising t HasBound prefix
-  promising-none prefix b none is = record {
-    bound = b;
-    is = is;
-    below = λ best of_task. absurd (none best of_task.admissible);
+  pub searchable : IsSearchable (world_of t HasBound) MayWait
+  searchable = record {
+    short = λ prefix viable. viable.sound.short;
+    within = λ prefix q viable. All-contains (λ n. n < length t.hold.positions) (prefix ++ q ∷ []) q (IsSound-within t (prefix ++ q ∷ []) viable.sound) (Contains-push prefix q);
+    admissible = λ path b is whole. IsAdmissible-from_viable t path whole (laws.viable path b is);
+    best = λ path. (
+      λ is. record { admissible = is.admissible; least = is.least },
+      λ is. record { admissible = is.admissible; least = is.least },
+    );
+    best_bound = λ path is. laws.complete path (best-viable t path is) is.admissible.complete;
+    best_whole = λ path is. is.admissible.complete;
+    best_exists = best_exists t;
+    one = laws.one;
+    viable = laws.viable;
+    narrows = laws.narrows;
+    complete = λ path b is whole. laws.one path b (distance t path) is (laws.complete path (laws.viable path b is) whole);
+    waiting = laws.waiting;
+    below = laws.below;
   }
 
   -- the empty prefix is promising where it has a bound
   pub empty-promising : (b : ℕ) → HasBound [] b → IsPromising t HasBound []
-  empty-promising b is = record {
-    bound = b;
-    is = is;
-    below = λ best of_task.
-        let front = front-at_most [] best (distance t best) (best-bound best of_task) in
-        subst (λ n. IsAtMost (n, []) (key t best)) (laws.one [] front.0 b front.1 is) front.2;
-  }
+  empty-promising = any.empty-promising (world_of t HasBound) MayWait searchable

@@ -14,12 +14,13 @@ use Rattle.hold_reach.specs.Reach.{IsViable}
 use Rattle.certificate.specs.Evidence.{claimed, paths_of}
 use Rattle.certificate.specs.Good.{IsBefore, IsUncut, IsIncomplete, AreInOrder, AreAtMost, IsNoBetter, IsExpanded, Covers}
 use Rattle.cert_checker.specs.Claims.{HasNoPlacement}
-use Rattle.best_first.specs.declared.found.Found.{Found}
-use Rattle.best_first.specs.Bounds.{AreBounds}
+use Rattle.path_search.specs.declared.found.Found.{Found}
+use Rattle.best_first.specs.Bounds.{AreBounds, world_of}
 use Rattle.best_first.specs.Promising.{IsPromising, IsPromisingAndIncomplete, HasPromisingParent, IsLeft, IsFoundFor}
-use Rattle.best_first.proofs.CountLemmas.{Contains-cons, Contains-later, Contains-cons_cases, Contains-nil, length-within, All-from_contains}
+use Rattle.path_search.proofs.CountLemmas.{Contains-cons, Contains-later, Contains-cons_cases, Contains-nil, length-within, All-from_contains}
 use Rattle.best_first.proofs.FrontLemmas.{IsViable-begins}
-use Rattle.best_first.proofs.BoundLemmas.{IsPromising-begins, one_best, promising-none}
+use Rattle.path_search.proofs.BoundLemmas.{IsPromising-begins, one_best, promising-none}
+use Rattle.best_first.proofs.BoundLemmas.{searchable}
 
 -- Lists -----------------------------------------------------------------------------------------
 
@@ -66,14 +67,14 @@ module _ (t : Problem) (HasBound MayWait : List ℕ → ℕ → Type 0) (laws : 
       (λ (below : IsAtMost (b, cut) (key t best)). absurd (left.unpromising (record {
         bound = b;
         is = is;
-        below = λ other of_other. subst (λ p. IsAtMost (b, cut) (key t p)) (one_best t best other of_task of_other) below;
+        below = λ other of_other. subst (λ p. IsAtMost (b, cut) (key t p)) (one_best (world_of t HasBound) MayWait (searchable t HasBound MayWait laws) best other of_task of_other) below;
       })))
       (λ (above : IsAtMost (key t best) (b, cut)). above)
       (IsAtMost-total (b, cut) (key t best))
 
   -- where no path is admissible, what is left has no bound
   pub left-none : (cut : List ℕ) (b : ℕ) → IsLeft t HasBound cut → HasBound cut b → HasNoPlacement t → ⊥
-  left-none cut b left is none = left.unpromising (promising-none t HasBound MayWait laws cut b none is)
+  left-none cut b left is none = left.unpromising (promising-none (world_of t HasBound) MayWait (searchable t HasBound MayWait laws) cut b none is)
 
   -- nothing that is left begins with an earlier one
   left-apart : (a b : List ℕ) → IsLeft t HasBound a → IsLeft t HasBound b → IsBefore a b → Extends a b → ⊥
@@ -88,7 +89,7 @@ module _ (t : Problem) (HasBound MayWait : List ℕ → ℕ → Type 0) (laws : 
           (λ (none : b ≡ []). absurd (omega (arith, ap length (sym is ∙ none), length-append a (r ∷ rest))))
           (λ (parent : HasPromisingParent t HasBound b).
           let within = front-of_parent a rest parent.0 r parent.1 (sym is ∙ parent.2) in
-          first.unpromising (IsPromising-begins t HasBound MayWait laws a within.0 (subst (IsPromising t HasBound) within.1 parent.3)))
+          first.unpromising (IsPromising-begins (world_of t HasBound) MayWait (searchable t HasBound MayWait laws) a within.0 (subst (IsPromising t HasBound) within.1 parent.3)))
           second.reached
 
   -- What is found -------------------------------------------------------------------------------

@@ -1,8 +1,9 @@
 -- bounds for the paths that begin with a prefix
 use Rattle.std.specs.Prelude.{◌≡◌, ℕ, ◌≤◌, List, [], ◌∷◌, ◌++◌, Some, length}
 use Rattle.hold_limits.specs.Problem.{Problem}
-use Rattle.hold_limits.specs.Placement.{distance}
+use Rattle.hold_limits.specs.Placement.{IsAdmissible, IsBest, distance}
 use Rattle.hold_reach.specs.Reach.{IsViable, bound}
+use Rattle.path_search.specs.Worlds.{World}
 
 -- a viable prefix with the bound that its reach gives
 abbrev pub HasReachBound : Problem → List ℕ → ℕ → Type 0
@@ -22,3 +23,15 @@ pub record AreBounds (t : Problem) (HasBound MayWait : List ℕ → ℕ → Type
   pub waiting : (prefix : List ℕ) (waited : ℕ) → MayWait prefix waited → IsViable t prefix
   pub below : (prefix : List ℕ) (waited b : ℕ) → MayWait prefix waited → HasBound prefix b → waited ≤ b
   pub reach : (prefix : List ℕ) (b : ℕ) → HasReachBound t prefix b → MayWait prefix b
+
+-- the prefixes and the paths of a task, with these bounds
+abbrev pub world_of : Problem → (List ℕ → ℕ → Type 0) → World
+world_of t HasBound = record {
+  count = length t.items;
+  positions = length t.hold.positions;
+  IsViable = IsViable t;
+  IsAdmissible = IsAdmissible t;
+  IsBest = IsBest t;
+  distance = distance t;
+  HasBound = HasBound;
+}

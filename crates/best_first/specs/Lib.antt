@@ -1,5 +1,3 @@
 pub mod Bounds
-pub mod Keys
 pub mod Looks
 pub mod Promising
-pub mod Search

@@ -8,17 +8,7 @@ ghost use Rattle.best_first.specs.Looks.{Shows};
 
 use base_words::NoMemory;
 use hold_partial::Partial;
-
-/// What a closer look at a prefix that waits shows.
-#[derive(Clone, Copy, Debug)]
-pub enum Look {
-    /// It waited with its own bound.
-    Settled,
-    /// It has to wait with more ticks, with so many.
-    Later(u64),
-    /// It has no bound.
-    TurnedBack,
-}
+use path_search::Look;
 
 /// A way to tell how near the ideal the paths that begin with a prefix can come. It may keep what it sees for later looks.
 pub trait Horizon<'a> {

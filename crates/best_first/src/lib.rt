@@ -2,13 +2,10 @@
 #![tactic(auto)]
 
 mod children;
-mod found;
+mod explorer;
 mod horizon;
-mod paths;
-mod queue;
 mod searching;
-mod turned;
 
-pub use found::Found;
-pub use horizon::{Horizon, Look};
+pub use horizon::Horizon;
+pub use path_search::{Found, Look};
 pub use searching::search;

@@ -7,7 +7,7 @@ use Rattle.certificate.specs.declared.parts.Certificate.{Certificate}
 use Rattle.certificate.specs.Evidence.{claimed, paths_of}
 use Rattle.certificate.specs.Good.{HoldsNothingBetter, IsGood}
 use Rattle.cert_checker.specs.Claims.{HasNoPlacement}
-use Rattle.best_first.specs.declared.found.Found.{Found}
+use Rattle.path_search.specs.declared.found.Found.{Found}
 use Rattle.best_first.specs.Bounds.{AreBounds, HasReachBound}
 use Rattle.best_first.specs.Promising.{IsLeft, IsFoundFor}
 use Rattle.best_first.proofs.CountLemmas.{All-from_contains}

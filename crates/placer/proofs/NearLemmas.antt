@@ -10,7 +10,7 @@ use Rattle.certificate.specs.Evidence.{claimed, paths_of}
 use Rattle.certificate.specs.Good.{AreAtMost, IsBefore}
 use Rattle.cert_checker.specs.Claims.{HasNoPlacement}
 use Rattle.cert_checker.specs.FirstReason.{AreExactly}
-use Rattle.best_first.specs.declared.found.Found.{Found}
+use Rattle.path_search.specs.declared.found.Found.{Found}
 use Rattle.best_first.specs.Promising.{IsPromising, IsPromisingAndIncomplete, HasPromisingParent, IsLeft, IsFoundFor}
 use Rattle.best_first.proofs.FrontLemmas.{bound-exists}
 use Rattle.best_first.proofs.BoundLemmas.{empty-promising}

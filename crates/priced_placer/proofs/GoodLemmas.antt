@@ -16,7 +16,7 @@ use Rattle.cert_checker.specs.FirstReason.{AreExactly}
 use Rattle.assignment_prices.specs.Priced.{price_span}
 use Rattle.assignment_prices.specs.TightReach.{IsTightReach}
 use Rattle.assignment_prices.proofs.LeastWay.{tight-exists}
-use Rattle.best_first.specs.declared.found.Found.{Found}
+use Rattle.path_search.specs.declared.found.Found.{Found}
 use Rattle.best_first.specs.Promising.{IsLeft, IsFoundFor}
 use Rattle.best_first.proofs.CoverLemmas.{Covers-found, left-above, left-none}
 use Rattle.priced_certificate.specs.declared.parts.PricedCut.{PricedCut}

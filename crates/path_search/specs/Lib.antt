@@ -1,0 +1,5 @@
+pub mod Keys
+pub mod Looks
+pub mod Promising
+pub mod Search
+pub mod Worlds
