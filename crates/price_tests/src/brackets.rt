@@ -60,11 +60,7 @@ fn told(alloc: Global, partial: &Partial<'_>, bracket: &Bracket<'_>) -> Result<S
 }
 
 /// What is told of the placement with one container more on each of the positions, each by a bracket from the one before.
-fn told_after(
-    alloc: Global,
-    mut partial: Partial<'_>,
-    positions: &[u8],
-) -> Result<String, Fail> {
+fn told_after(alloc: Global, mut partial: Partial<'_>, positions: &[u8]) -> Result<String, Fail> {
     let mut bracket = Bracket::of(&partial);
     for position in positions {
         if partial.prefix().len() >= partial.task().items().len()

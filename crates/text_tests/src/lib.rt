@@ -20,6 +20,8 @@ mod messages;
 #[cfg(test)]
 mod priced_certificates;
 #[cfg(test)]
+mod stops;
+#[cfg(test)]
 mod tasks;
 
 /// Fails a test where a row of a table is wrong, and prints the row.
