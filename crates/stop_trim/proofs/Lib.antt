@@ -1,0 +1,3 @@
+pub mod TaskLemmas
+pub mod LoadLemmas
+pub mod LawLemmas
