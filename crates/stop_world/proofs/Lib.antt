@@ -1,0 +1,4 @@
+pub mod WideLemmas
+pub mod SectorLemmas
+pub mod LeastLemmas
+pub mod WorldLemmas
