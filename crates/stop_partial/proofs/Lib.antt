@@ -1,0 +1,2 @@
+pub mod SectorLemmas
+pub mod NextLemmas
