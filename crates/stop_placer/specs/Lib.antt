@@ -1,0 +1,2 @@
+pub mod NextAtStart
+pub mod StopAnswers
