@@ -1,0 +1,5 @@
+pub mod TaskEnds
+pub mod TaskBlocks
+pub mod LastTask
+pub mod FileLines
+pub mod LoadLemmas

@@ -1,0 +1,3 @@
+pub mod StopFile
+pub mod StopRefusals
+pub mod Reading
