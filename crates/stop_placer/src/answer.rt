@@ -1,6 +1,6 @@
 //! The best placement of a load over several sectors.
 
-ghost use Rattle.std.specs.Prelude.{◌≡◌, ◌≤◌, IfOk, None, Some};
+ghost use Rattle.std.specs.Prelude.{◌≡◌, IfOk, None, Some};
 ghost use Rattle.certificate.specs.Evidence.{claimed};
 ghost use Rattle.stop_placer.specs.StopAnswers.{IfBest, IfBudget, IfNoneFits, IsStopAnswerTo};
 
@@ -40,8 +40,6 @@ fn answer_of(claim: Claim) -> StopAnswer
 /// path order among equals. Where more prefixes are near than the budget, the answer is the budget. So the answer is a
 /// function of the load and the budget, unless memory runs out.
 pub fn place_stops(alloc: Global, t: &StopTask, budget: u32) -> Result<StopAnswer, NoMemory>
-    requires least { 1 ≤ budget }
-    requires most { budget ≤ 5000 }
     ensures { IfOk result (IsStopAnswerTo t.now budget) }
 {
     stop_world_laws();
