@@ -4,4 +4,4 @@
 
 mod plan;
 
-pub use plan::{push_balance, push_plan};
+pub use plan::{push_balance, push_place_lines, push_plan};

@@ -33,8 +33,8 @@ fn push_place_line(out: &mut Builder, id: &[u8], name: &[u8]) -> Result<(), NoMe
     out.end_line()
 }
 
-/// Appends a line for each container of the path, in branch order.
-fn push_place_lines(out: &mut Builder, task: &Task, path: &[u8]) -> Result<(), NoMemory>
+/// Appends `place ID NAME` for each container of the path, in branch order.
+pub fn push_place_lines(out: &mut Builder, task: &Task, path: &[u8]) -> Result<(), NoMemory>
     requires { length path.now ≤ length task.now.items }
     ensures { OnOk result (out.new
         ≡ out.old ++ text_of (place_lines task.now (placed task.now path.now))) }
