@@ -332,3 +332,9 @@ spelled_once text a b s u = of a.third b.third refl refl
     of (Some t) None e g = absurd (not_both text b a t u s g e)
     of (Some t) (Some v) e g =
         one.one_said (files IsThere) three_once text a b (s.spelled, subst IsThere (sym e) tt) (u.spelled, subst IsThere (sym g) tt) s.is u.is
+
+-- and has one fault of its lines at most
+pub wrong_once : (text : List ℕ) (a b : LineFault) → HasWrongLines text a → HasWrongLines text b → a ≢ NoMemory → b ≢ NoMemory → a ≡ b
+wrong_once text a b (memory e) h not_a not_b = absurd (not_a e)
+wrong_once text a b (wrong none fails) (memory e) not_a not_b = absurd (not_b e)
+wrong_once text a b (wrong none fails) (wrong none' fails') not_a not_b = one.one_fault (files IsThere) three_once text 1 a b fails fails' not_a not_b

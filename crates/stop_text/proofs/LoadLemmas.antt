@@ -82,14 +82,14 @@ load_told file tasks leaves behind are e g r made refused = of r made refused
 
 -- Lawful loads have no fault ----------------------------------------------------------------------
 
-fault_twice : (t : Problem) (fault : TextFault) → HasNoFault t → IsFaultOf t fault → ⊥
+pub fault_twice : (t : Problem) (fault : TextFault) → HasNoFault t → IsFaultOf t fault → ⊥
 fault_twice t (text.Line n) none h = h
 fault_twice t text.NoEnd none h = h
 fault_twice t (text.Hold fault) none h = let hold = none.0 in absurd (cc (hold, h))
 fault_twice t (text.Task fault) none h = let task = none.1 in let own = h.1 in absurd (cc (task, own))
 fault_twice t text.NoMemory none h = h
 
-no_first_fault : (sectors : List Problem) (number : ℕ) (fault : TextFault) → All HasNoFault sectors → IsFirstFault sectors number fault → ⊥
+pub no_first_fault : (sectors : List Problem) (number : ℕ) (fault : TextFault) → All HasNoFault sectors → IsFirstFault sectors number fault → ⊥
 no_first_fault [] number fault none h = h
 no_first_fault (t ∷ ts) number fault none h =
     ⊎_elim
@@ -104,7 +104,7 @@ no_stop_fault t Leaves l h = h.2 l.leaves
 no_stop_fault t (Aboard number) l h = h.3.2.2 (l.aboard h.3.0 h.3.2.0)
 no_stop_fault t (Behind number) l h = h.4.2 (l.behind number h.4.0)
 
-lawful_told : (file : StopFile) (fault : StopTextFault) → All HasNoFault (sectors_of file) → AreLawfulStops (stops_of_file file) → IsLoadFault file fault → fault ≡ stop.NoMemory
+pub lawful_told : (file : StopFile) (fault : StopTextFault) → All HasNoFault (sectors_of file) → AreLawfulStops (stops_of_file file) → IsLoadFault file fault → fault ≡ stop.NoMemory
 lawful_told file _ lawful stops (wrong_task number own h) = absurd (no_first_fault (sectors_of file) number own lawful h)
 lawful_told file _ lawful stops (wrong_load own tasks h) = absurd (no_stop_fault (stops_of_file file) own stops h)
 lawful_told file _ lawful stops no_memory = refl

@@ -1,3 +1,4 @@
 pub mod StopFile
 pub mod StopRefusals
 pub mod Reading
+pub mod Writing

@@ -1,5 +1,5 @@
-//! The text of a load over several sectors, read exactly: the result is the load that the bytes spell, or else the one
-//! reason why they spell no lawful load.
+//! The text of a load over several sectors, written and read exactly: the one text of a load is read back as that load.
+//! Of any bytes, the result is the load that they spell, or else the one reason why they spell no lawful load.
 //!
 //! ```text
 //! STOPS 1
@@ -21,10 +21,15 @@
 
 mod ends;
 mod fault;
+mod laws;
 mod line_readers;
+mod line_writers;
 mod load;
 mod parts;
 mod reader;
+mod writer;
 
 pub use fault::StopTextFault;
+pub use laws::stop_text_laws;
 pub use reader::read_stops;
+pub use writer::write_stops;

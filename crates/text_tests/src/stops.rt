@@ -1,9 +1,9 @@
 // The texts of loads over several sectors, and edits of one.
 use crate::pass;
 use case_rows::Subject;
-use std::alloc::Global;
+use std::alloc::{AllocError, Global};
 use std::test::Fail;
-use stop_text::read_stops;
+use stop_text::{read_stops, write_stops};
 
 /// The task of a sector with two containers.
 const FIRST: &str = "TASK 1
@@ -28,14 +28,19 @@ ideal 0.00000 0.00000
 END
 ";
 
-/// The load that a text spells, or why it spells none. `FIRST` and `NEXT` stand for the tasks.
+/// The text of a case, in which `FIRST` and `NEXT` stand for the tasks.
+fn with_tasks(alloc: Global, case: &str) -> Result<String, AllocError> {
+    String::from_str(alloc, case)?
+        .replace(alloc, "FIRST\n", FIRST)?
+        .replace(alloc, "NEXT\n", NEXT)
+}
+
+/// The load that a text spells, or why it spells none.
 struct Spelled;
 
 impl Subject for Spelled {
     fn said(&self, alloc: Global, case: &str) -> Result<String, Fail> {
-        let text = String::from_str(alloc, case)?
-            .replace(alloc, "FIRST\n", FIRST)?
-            .replace(alloc, "NEXT\n", NEXT)?;
+        let text = with_tasks(alloc, case)?;
         match read_stops(alloc, text.as_bytes()) {
             Ok(load) => Ok(format!(in alloc;
                 "{:?} {:?} {}",
@@ -55,6 +60,30 @@ fn a_load_over_several_sectors_is_read(rt: HostRuntime) {
 [3, 1] [] 3|STOPS 1~leave AKE10001XX 3~leave AKE10002XX 1~FIRST~NEXT~NEXT~
 [2, 2] [] 2|STOPS 1~leave AKE10001XX 2~leave AKE10002XX 2~FIRST~FIRST~";
     pass(&rt, rt.alloc(), &Spelled, rows);
+}
+
+/// Whether the text that is written of a load is the one from which it was read.
+struct Written;
+
+impl Subject for Written {
+    fn said(&self, alloc: Global, case: &str) -> Result<String, Fail> {
+        let text = with_tasks(alloc, case)?;
+        let written = write_stops(alloc, &read_stops(alloc, text.as_bytes())?)?;
+        let said = if written.as_slice() == text.as_bytes() {
+            "the same text"
+        } else {
+            "another text"
+        };
+        Ok(String::from_str(alloc, said)?)
+    }
+}
+
+#[test]
+fn a_load_over_several_sectors_is_written_as_it_was_read(rt: HostRuntime) {
+    let rows = "the same text|STOPS 1~leave AKE10001XX 2~leave AKE10002XX 1~behind 12 11~FIRST~NEXT~
+the same text|STOPS 1~leave AKE10001XX 3~leave AKE10002XX 1~behind 11 12~behind 12 11~FIRST~NEXT~NEXT~
+the same text|STOPS 1~leave AKE10001XX 3~leave AKE10002XX 2~FIRST~FIRST~NEXT~";
+    pass(&rt, rt.alloc(), &Written, rows);
 }
 
 #[test]
