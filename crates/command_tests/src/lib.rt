@@ -1,4 +1,4 @@
-//! Tests of the commands about one task, from their arguments to what is printed.
+//! Tests of the commands about one task or load, from their arguments to what is printed.
 //! They stand apart, since a crate with tests is proved twice.
 #![tactic(auto)]
 
@@ -10,5 +10,7 @@ mod plans;
 mod prices;
 #[cfg(test)]
 mod runs;
+#[cfg(test)]
+mod stops;
 #[cfg(test)]
 mod trees;

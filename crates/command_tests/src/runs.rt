@@ -241,6 +241,37 @@ const PRICED_CLAIM: &str = "CERTIFICATE 2
 best 12 41
 ";
 
+/// A load over two sectors: the first container is aboard on both.
+const TWO_SECTORS: &str = "STOPS 1
+leave AKE10001XX 2
+leave AKE10002XX 1
+";
+
+/// A load over three sectors: the first container is aboard on all, the second one on two.
+const THREE_SECTORS: &str = "STOPS 1
+leave AKE10001XX 3
+leave AKE10002XX 2
+";
+
+/// What the last sector has behind its positions: the first container, and a window that leaves it those towards the
+/// tail.
+const LAST_SECTOR: &str = "item AKE10001XX 1000
+base 50.00000
+window 4.00000 10.00000
+ideal 50.00000 50.00000
+END
+";
+
+/// The plan over two sectors where what stands on 11 is behind what stands on 41.
+const STOPS_PLAN: &str = "PLAN
+place AKE10001XX 41
+place AKE10002XX 12
+index 50.80000
+distance 0.80000
+sector 2 54.00000
+END
+";
+
 /// The summary of the load that is made from 0.
 const LOAD_0: &str = "GEN 0
 mass 50712
@@ -264,8 +295,19 @@ fn named_with_prices(name: &str) -> Option<&'static str> {
     })
 }
 
+/// Of the texts of loads over several sectors, the one that has this name.
+fn named_over_sectors(name: &str) -> Option<&'static str> {
+    Some(match name {
+        "two_sectors" => TWO_SECTORS,
+        "three_sectors" => THREE_SECTORS,
+        "last_sector" => LAST_SECTOR,
+        "stops_plan" => STOPS_PLAN,
+        _ => return None,
+    })
+}
+
 /// Of the other texts, the one that has this name.
-fn named_without_prices(name: &str) -> Option<&'static str> {
+fn named_otherwise(name: &str) -> Option<&'static str> {
     Some(match name {
         "positions" => POSITIONS,
         "forward" => FORWARD,
@@ -299,10 +341,9 @@ fn named_without_prices(name: &str) -> Option<&'static str> {
 
 /// The text that has this name.
 fn named(name: &str) -> Option<&'static str> {
-    match named_without_prices(name) {
-        Some(text) => Some(text),
-        None => named_with_prices(name),
-    }
+    named_otherwise(name)
+        .or_else(|| named_with_prices(name))
+        .or_else(|| named_over_sectors(name))
 }
 
 /// The parts of a text, which are parted by commas: names, and lines in full.

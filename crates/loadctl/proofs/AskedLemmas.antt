@@ -1,9 +1,10 @@
 -- Arguments ask for one thing.
-use Rattle.std.proofs.Common.{◌≡◌, ℕ, List, [], get_or, sym, ap, ◌∙◌, arith}
+use Rattle.std.proofs.Common.{◌≡◌, ℕ, List, [], get_or, sym, ap, ◌∙◌, bytes_eq, if◌then◌else◌}
+use Rattle.std.specs.Prelude.{codes}
 use Rattle.plan_commands.specs.declared.arguments.Command.{Command}
 use Rattle.plan_commands.specs.Arguments.{Job, AskFor, IsCommand, AreInvalid, arguments_of}
 use Rattle.plan_commands.specs.Commands.{job_of}
-use Rattle.plan_commands.specs.Arguments.AskFor.{place_usually, place_within, check_certificate, best_usually, best_within, check_best, priced_usually, priced_within, check_prices, generate_load}
+use Rattle.plan_commands.specs.Arguments.AskFor.{place_usually, place_within, check_certificate, best_usually, best_within, check_best, priced_usually, priced_within, check_prices, stops_usually, stops_within, generate_load}
 use Rattle.loadctl.specs.Desk.{AskForDesk}
 use Rattle.loadctl.specs.Serve.{AskForServe, AskForNoServe}
 use Rattle.loadctl.specs.declared.asked.AskedDesk.{AskedDesk}
@@ -15,58 +16,55 @@ use Rattle.loadctl.specs.declared.asked.Asked.TheVariants as asked
 use Rattle.loadctl.specs.Asked.{AskForDeskOver, AskForServeOver, AskOne, Ask}
 use Rattle.loadctl.specs.Needs.{AskForNothing}
 
--- the first letter of the first argument
-first_letter : List (List ℕ) → ℕ
-first_letter words = get_or (get_or words 0 []) 0 0
+-- what the first argument asks for: one desk, several desks, or neither
+data Asks : Type 0 where
+  one_desk : Asks
+  several_desks : Asks
+  neither : Asks
 
--- the first letter of `desk`, and of `serve`
-d_letter : ℕ
-d_letter = 100
+asks_by : List ℕ → Asks
+asks_by word = if bytes_eq word (codes "desk") then one_desk else if bytes_eq word (codes "serve") then several_desks else neither
 
-s_letter : ℕ
-s_letter = 115
-
-IsNeither : ℕ → Type 0
-IsNeither letter = (letter ≡ d_letter → ⊥) × (letter ≡ s_letter → ⊥)
+asks_for : List (List ℕ) → Asks
+asks_for arguments = asks_by (get_or arguments 0 [])
 
 module _ (arguments : List (List ℕ)) where
-  command-letter : (job : Job) → AskFor arguments job → IsNeither (first_letter arguments)
-  unfolding first_letter d_letter s_letter IsNeither
-  command-letter _ (place_usually task is) = let e : first_letter arguments ≡ 112 = ap first_letter is in (λ d. absurd (omega (arith, e, d)), λ s. absurd (omega (arith, e, s)))
-  command-letter _ (place_within task n is low high) = let e : first_letter arguments ≡ 112 = ap first_letter is in (λ d. absurd (omega (arith, e, d)), λ s. absurd (omega (arith, e, s)))
-  command-letter _ (check_certificate task c is) = let e : first_letter arguments ≡ 99 = ap first_letter is in (λ d. absurd (omega (arith, e, d)), λ s. absurd (omega (arith, e, s)))
-  command-letter _ (best_usually task is) = let e : first_letter arguments ≡ 98 = ap first_letter is in (λ d. absurd (omega (arith, e, d)), λ s. absurd (omega (arith, e, s)))
-  command-letter _ (best_within task n is low high) = let e : first_letter arguments ≡ 98 = ap first_letter is in (λ d. absurd (omega (arith, e, d)), λ s. absurd (omega (arith, e, s)))
-  command-letter _ (check_best task c is) = let e : first_letter arguments ≡ 98 = ap first_letter is in (λ d. absurd (omega (arith, e, d)), λ s. absurd (omega (arith, e, s)))
-  command-letter _ (priced_usually task is) = let e : first_letter arguments ≡ 112 = ap first_letter is in (λ d. absurd (omega (arith, e, d)), λ s. absurd (omega (arith, e, s)))
-  command-letter _ (priced_within task n is low high) = let e : first_letter arguments ≡ 112 = ap first_letter is in (λ d. absurd (omega (arith, e, d)), λ s. absurd (omega (arith, e, s)))
-  command-letter _ (check_prices task c is) = let e : first_letter arguments ≡ 112 = ap first_letter is in (λ d. absurd (omega (arith, e, d)), λ s. absurd (omega (arith, e, s)))
-  command-letter _ (generate_load n is fits) = let e : first_letter arguments ≡ 103 = ap first_letter is in (λ d. absurd (omega (arith, e, d)), λ s. absurd (omega (arith, e, s)))
+  command-asks : (job : Job) → AskFor arguments job → asks_for arguments ≡ neither
+  unfolding asks_by asks_for
+  command-asks _ (place_usually task is) = ap asks_for is
+  command-asks _ (place_within task n is low high) = ap asks_for is
+  command-asks _ (check_certificate task c is) = ap asks_for is
+  command-asks _ (best_usually task is) = ap asks_for is
+  command-asks _ (best_within task n is low high) = ap asks_for is
+  command-asks _ (check_best task c is) = ap asks_for is
+  command-asks _ (priced_usually task is) = ap asks_for is
+  command-asks _ (priced_within task n is low high) = ap asks_for is
+  command-asks _ (check_prices task c is) = ap asks_for is
+  command-asks _ (stops_usually file is) = ap asks_for is
+  command-asks _ (stops_within file n is low high) = ap asks_for is
+  command-asks _ (generate_load n is fits) = ap asks_for is
 
-  desk-letter : (names : List (List ℕ)) → AskForDesk arguments names → first_letter arguments ≡ d_letter
-  unfolding first_letter d_letter
-  desk-letter names is = ap first_letter is.form
+  desk-asks : (names : List (List ℕ)) → AskForDesk arguments names → asks_for arguments ≡ one_desk
+  unfolding asks_by asks_for
+  desk-asks names is = ap asks_for is.form
 
-  serve-letter : (n p : ℕ) (names : List (List ℕ)) → AskForServe arguments n p names → first_letter arguments ≡ s_letter
-  unfolding first_letter s_letter
-  serve-letter n p names is = ap first_letter is.form
+  serve-asks : (n p : ℕ) (names : List (List ℕ)) → AskForServe arguments n p names → asks_for arguments ≡ several_desks
+  unfolding asks_by asks_for
+  serve-asks n p names is = ap asks_for is.form
 
-  -- a command about one task asks for no office
+  -- a command about one task or load asks for no office
   pub command-no_desk : (job : Job) → IsCommand arguments job → (names : List (List ℕ)) → AskForDesk arguments names → ⊥
-  unfolding IsNeither
-  command-no_desk job command names is = (command-letter job command.form).0 (desk-letter names is)
+  command-no_desk job command names is = let c = command-asks job command.form in let d = desk-asks names is in cc
 
   pub command-no_serve : (job : Job) → IsCommand arguments job → AskForNoServe arguments
-  unfolding IsNeither
-  command-no_serve job command n p names is = (command-letter job command.form).1 (serve-letter n p names is)
+  command-no_serve job command n p names is = let c = command-asks job command.form in let s = serve-asks n p names is in cc
 
   -- nor do several desks ask for a command, or one desk for several
   pub serve-no_command : (n p : ℕ) (names : List (List ℕ)) → AskForServe arguments n p names → AreInvalid arguments
   serve-no_command n p names is job command = command-no_serve job command n p names is
 
   pub desk-no_serve : (names : List (List ℕ)) → AskForDesk arguments names → AskForNoServe arguments
-  unfolding d_letter s_letter
-  desk-no_serve names is n p others other = let d = desk-letter names is in let s = serve-letter n p others other in absurd (omega (arith, d, s))
+  desk-no_serve names is n p others other = let d = desk-asks names is in let s = serve-asks n p others other in cc
 
   -- the store of a desk is the one
   pub one-store : (names others : List (List ℕ)) (one : AskForDesk arguments names) (other : AskForDesk arguments others) → one.store ≡ other.store

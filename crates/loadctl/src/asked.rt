@@ -44,7 +44,7 @@ pub struct AskedServe<'a> {
 /// What arguments ask for that ask for no door.
 #[derive(Clone, Copy)]
 pub enum AskedOne<'a> {
-    /// A command about one task.
+    /// A command about one task, or about one load over several sectors.
     Task(Command<'a>),
     Desk(AskedDesk<'a>),
     /// The arguments are invalid.

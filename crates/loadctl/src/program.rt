@@ -22,7 +22,7 @@ use std::alloc::Global;
 use std::sync::Wait;
 use std::thread::Threads;
 
-/// Does what a command about one task asks, or says that the arguments are invalid where there is none.
+/// Does what a command about one task or load asks, or says that the arguments are invalid where there is none.
 fn run_task<F: Shelf, O: Sink, K: Keeper, P: Placing>(
     alloc: Global,
     command: Option<Command<'_>>,

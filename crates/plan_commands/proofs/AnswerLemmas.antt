@@ -3,20 +3,22 @@ use Rattle.std.proofs.Common.{ℕ, List, Option, Some, None}
 use Rattle.std.specs.Prelude.{IfSome, MatchOption}
 use Rattle.load_io.specs.Shelf.{Files}
 use Rattle.hold_limits.specs.Problem.{Problem}
+use Rattle.stop_tasks.specs.Stops.{Stops}
 use Rattle.certificate.specs.declared.parts.Certificate.{Certificate}
 use Rattle.plan_commands.specs.declared.ending.Outcome.{Outcome}
 use Rattle.plan_commands.specs.declared.ending.Halt.{Halt}
 use Rattle.plan_commands.specs.declared.ending.Halt.TheVariants.{BadInput, ReadFault, NoMemory}
 use Rattle.plan_commands.specs.Halts.{IfBadInput}
-use Rattle.plan_commands.specs.Arguments.Job.{place, check, best, check_any, priced, check_priced, generate}
+use Rattle.plan_commands.specs.Arguments.Job.{place, check, best, check_any, priced, check_priced, stops, generate}
 use Rattle.plan_commands.specs.NearReply.{IsPlacing, IsJudgement}
 use Rattle.plan_commands.specs.TreeReply.{IsTreePlacing}
 use Rattle.priced_certificate.specs.declared.parts.PricedCertificate.{PricedCertificate}
 use Rattle.plan_commands.specs.PricedReply.{IsPricedPlacing, IsPricedJudgement}
+use Rattle.plan_commands.specs.StopReply.{IsStopPlacing}
 use Rattle.plan_commands.specs.AnyReply.{AnyListed, IsAnyJudgement}
-use Rattle.plan_commands.specs.Reply.{IsTaskFile, IsRefusedTask, IsCertificateFile, IsRefusedCertificate, IsAnyFile, IsRefusedAny, IsPricedFile, IsRefusedPriced, IsSummary, IsAnswer, IsBadInput, IsAnswerOver, IsBadInputOver}
-use Rattle.plan_commands.specs.Reply.IsAnswer.{placed, judged, placed_by_trees, any_judged, placed_with_prices, prices_judged, summed}
-use Rattle.plan_commands.specs.Reply.IsBadInput.{bad_task, bad_checked_task, bad_certificate, bad_best_task, bad_task_of_any, bad_any, bad_priced_task, bad_task_of_prices, bad_prices}
+use Rattle.plan_commands.specs.Reply.{IsTaskFile, IsRefusedTask, IsCertificateFile, IsRefusedCertificate, IsAnyFile, IsRefusedAny, IsPricedFile, IsRefusedPriced, IsStopsFile, IsRefusedStopsFile, IsSummary, IsAnswer, IsBadInput, IsAnswerOver, IsBadInputOver}
+use Rattle.plan_commands.specs.Reply.IsAnswer.{placed, judged, placed_by_trees, any_judged, placed_with_prices, prices_judged, placed_over_sectors, summed}
+use Rattle.plan_commands.specs.Reply.IsBadInput.{bad_task, bad_checked_task, bad_certificate, bad_best_task, bad_task_of_any, bad_any, bad_priced_task, bad_task_of_prices, bad_prices, bad_stops}
 
 over : (exposed : Option Files) (Hidden : Type 0) (P Q : Files → Type 0) → IfSome exposed P → Hidden → ((files : Files) → P files → Q files) → MatchOption exposed Hidden Q
 over None Hidden P Q holds hidden then = hidden
@@ -140,3 +142,17 @@ bad-prices (BadInput line) exposed task certificate t file wrong =
     (λ files there is. bad_prices task certificate t line.items there is)
 bad-prices ReadFault exposed task certificate t file wrong = tt
 bad-prices NoMemory exposed task certificate t file wrong = tt
+
+-- Commands for loads over several sectors -------------------------------------------------------
+
+pub placed-over_sectors-answer : (exposed : Option Files) (file : List ℕ) (budget : ℕ) (t : Stops) (outcome : Outcome) (text : List ℕ) → IfSome exposed (λ files. IsStopsFile files file t)
+    → IsStopPlacing t budget outcome text → IsAnswerOver exposed (stops file budget) outcome text
+placed-over_sectors-answer exposed file budget t outcome text read is =
+    over exposed (Unit {0}) (λ files. IsStopsFile files file t) (λ files. IsAnswer files (stops file budget) outcome text) read tt (λ files there. placed_over_sectors file budget t outcome text there is)
+
+pub bad-stops : (halt : Halt) (exposed : Option Files) (file : List ℕ) (budget : ℕ) → IfBadInput halt (λ line. IfSome exposed (λ files. IsRefusedStopsFile files file line))
+    → IfBadInput halt (IsBadInputOver exposed (stops file budget))
+bad-stops (BadInput line) exposed file budget wrong =
+    over exposed (Unit {0}) (λ files. IsRefusedStopsFile files file line.items) (λ files. IsBadInput files (stops file budget) line.items) wrong tt (λ files is. bad_stops file budget line.items is)
+bad-stops ReadFault exposed file budget wrong = tt
+bad-stops NoMemory exposed file budget wrong = tt

@@ -13,6 +13,8 @@ use Rattle.plan_commands.specs.Reply.{IsRefusal, Holds}
 use Rattle.plan_commands.specs.NearReply.{IsCertificateRefusal}
 use Rattle.plan_commands.specs.PricedReply.{IsPricedRefusal}
 use Rattle.plan_commands.specs.PricedReply.IsPricedRefusal.{too_long as prices_too_long}
+use Rattle.plan_commands.specs.StopReply.{IsStopRefusal}
+use Rattle.plan_commands.specs.StopReply.IsStopRefusal.{too_long as stops_too_long}
 use Rattle.plan_commands.specs.AnyReply.{IsAnyRefusal}
 use Rattle.plan_commands.specs.AnyReply.IsAnyRefusal.{too_long as any_too_long}
 use Rattle.plan_commands.specs.Reply.IsRefusal.{too_long as task_too_long}
@@ -40,6 +42,9 @@ long-any-refused t line bytes is long = subst (IsAnyRefusal t bytes) (sym is) (a
 
 pub long-prices-refused : (t : Problem) (line bytes : List ℕ) → line ≡ long_text → longest_priced < length bytes → IsPricedRefusal t bytes line
 long-prices-refused t line bytes is long = subst (IsPricedRefusal t bytes) (sym is) (prices_too_long long)
+
+pub long-stops-refused : (line bytes : List ℕ) → line ≡ long_text → longest_task < length bytes → IsStopRefusal bytes line
+long-stops-refused line bytes is long = subst (IsStopRefusal bytes) (sym is) (stops_too_long long)
 
 -- what holds of the error that `?` returns
 pub IfErr-from_residual : {X E : Type 0} (r : Result X E) (e : E) (P : E → Type 0) → IsErrAnd r (λ x. x ≡ e) → P e → IfErr r P

@@ -11,6 +11,7 @@ pub mod PricedShort
 pub mod PricedBack
 pub mod JobLemmas
 pub mod PricedJobLemmas
+pub mod StopJobLemmas
 pub mod TreeJobLemmas
 pub mod AnswerLemmas
 pub mod OneJob

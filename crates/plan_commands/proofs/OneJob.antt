@@ -4,9 +4,9 @@ use Rattle.std.specs.Prelude.{codes}
 use Rattle.std.specs.Str.Parse.{digits_value}
 use Rattle.mass_units.proofs.SpellingLemmas.{digits_value-number_text}
 use Rattle.mass_units.specs.Spelling.{number_text}
-use Rattle.plan_commands.specs.Arguments.{Job, AskFor, usual_budget, usual_looks, greatest_priced_budget}
-use Rattle.plan_commands.specs.Arguments.Job.{place, check, best, check_any, priced, check_priced, generate}
-use Rattle.plan_commands.specs.Arguments.AskFor.{place_usually, place_within, check_certificate, best_usually, best_within, check_best, priced_usually, priced_within, check_prices, generate_load}
+use Rattle.plan_commands.specs.Arguments.{Job, AskFor, usual_budget, usual_looks, greatest_priced_budget, usual_stop_budget}
+use Rattle.plan_commands.specs.Arguments.Job.{place, check, best, check_any, priced, check_priced, stops, generate}
+use Rattle.plan_commands.specs.Arguments.AskFor.{place_usually, place_within, check_certificate, best_usually, best_within, check_best, priced_usually, priced_within, check_prices, stops_usually, stops_within, generate_load}
 
 -- the job that a name and one operand ask for, if they ask for one
 one_operand : (name operand : List ℕ) → Job
@@ -14,6 +14,7 @@ one_operand name operand =
     if bytes_eq name (codes "place") then place operand usual_budget
     else if bytes_eq name (codes "best") then best operand usual_looks
     else if bytes_eq name (codes "priced") then priced operand greatest_priced_budget
+    else if bytes_eq name (codes "stops") then stops operand usual_stop_budget
     else generate (digits_value 10 operand)
 
 -- the same of a name and two operands
@@ -22,6 +23,7 @@ two_operands name task other =
     if bytes_eq name (codes "place") then place task (digits_value 10 other)
     else if bytes_eq name (codes "best") then best task (digits_value 10 other)
     else if bytes_eq name (codes "priced") then priced task (digits_value 10 other)
+    else if bytes_eq name (codes "stops") then stops task (digits_value 10 other)
     else if bytes_eq name (codes "check") then check task other
     else if bytes_eq name (codes "bestcheck") then check_any task other
     else check_priced task other
@@ -45,6 +47,8 @@ asked-job arguments _ (check_best task certificate is) = rw is refl
 asked-job arguments _ (priced_usually task is) = rw is refl
 asked-job arguments _ (priced_within task n is low high) = rw is (read_number (priced task) n)
 asked-job arguments _ (check_prices task certificate is) = rw is refl
+asked-job arguments _ (stops_usually file is) = rw is refl
+asked-job arguments _ (stops_within file n is low high) = rw is (read_number (stops file) n)
 asked-job arguments _ (generate_load n is fits) = rw is (read_number generate n)
 
 pub one_form : (arguments : List (List ℕ)) (a b : Job) → AskFor arguments a → AskFor arguments b → a ≡ b

@@ -7,6 +7,10 @@ use Rattle.load_io.specs.Shelf.{Files}
 use Rattle.hold_parts.specs.Spellings.{IsName}
 use Rattle.hold_parts.specs.declared.parts.Position.{Position}
 use Rattle.hold_limits.specs.Problem.{Problem}
+use Rattle.stop_tasks.specs.Stops.{Stops}
+use Rattle.stop_tasks.specs.StopFaults.{AreLawfulStops}
+use Rattle.stop_text.specs.declared.fault.StopTextFault.TheVariants as stop
+use Rattle.stop_text.proofs.LawLemmas.{lawful_not_refused as load_not_refused}
 use Rattle.problem_text.specs.TaskText.{IsSpelledPosition}
 use Rattle.problem_text.specs.declared.fault.TextFault.TheVariants as text
 use Rattle.problem_text.proofs.RefusalLemmas.{spelled_once, lawful_not_refused}
@@ -34,14 +38,17 @@ use Rattle.plan_commands.specs.PricedReply.{IsPricedIn, IsPricedRefusal, IsPrice
 use Rattle.plan_commands.specs.PricedReply.IsPricedRefusal.{too_long as prices_too_long, no_certificate as no_prices}
 use Rattle.plan_commands.specs.PricedReply.IsPricedPlacing.{plan as priced_plan, nothing_fits as priced_nothing_fits, over_budget as priced_over_budget}
 use Rattle.plan_commands.specs.PricedReply.IsPricedJudgement.{good as good_prices, rejected as rejected_prices}
+use Rattle.plan_commands.specs.StopReply.{IsStopsIn, IsStopRefusal, IsStopPlacing}
+use Rattle.plan_commands.specs.StopReply.IsStopRefusal.{too_long as stops_too_long, no_load}
+use Rattle.plan_commands.specs.StopReply.IsStopPlacing.{plan as stop_plan, nothing_fits as stop_nothing_fits, over_budget as stop_over_budget}
 use Rattle.plan_commands.specs.AnyReply.{AnyListed, IsAnyIn, IsAnyRefusal, IsAnyJudgement}
 use Rattle.plan_commands.specs.AnyReply.AnyListed.{of_cuts, of_trees}
 use Rattle.plan_commands.specs.AnyReply.IsAnyRefusal.{too_long as any_too_long, no_cuts, no_trees as none_of_trees}
 use Rattle.plan_commands.specs.Reply.{IsTaskIn, IsRefusal, IsCertificateFile, IsAnyFile, IsPricedFile, IsSummary, IsAnswer, IsAnswerAlone, IsAnswerOver, IsBadInput, NeedsFiles, IsBadInputOver, IsReply, IsReplyOver, HasInput, HaveInput, HaveBadInput, IsAnswered}
 use Rattle.plan_commands.specs.Reply.IsRefusal.{too_long as task_too_long, no_task}
 use Rattle.plan_commands.specs.Reply.IsSummary.{plan_summed, none_summed, budget_summed}
-use Rattle.plan_commands.specs.Reply.IsAnswer.{placed, judged, placed_by_trees, any_judged, placed_with_prices, prices_judged, summed}
-use Rattle.plan_commands.specs.Reply.IsBadInput.{bad_task, bad_checked_task, bad_certificate, bad_best_task, bad_task_of_any, bad_any, bad_priced_task, bad_task_of_prices, bad_prices}
+use Rattle.plan_commands.specs.Reply.IsAnswer.{placed, judged, placed_by_trees, any_judged, placed_with_prices, prices_judged, placed_over_sectors, summed}
+use Rattle.plan_commands.specs.Reply.IsBadInput.{bad_task, bad_checked_task, bad_certificate, bad_best_task, bad_task_of_any, bad_any, bad_priced_task, bad_task_of_prices, bad_prices, bad_stops}
 use Rattle.plan_commands.specs.Reply.IsReply.{answered, refused, usage}
 use Rattle.plan_commands.specs.Reply.IsAnswered.{is_done, is_nothing_fits, is_over_budget, is_undecided, is_rejected}
 use Rattle.plan_commands.proofs.OneJob.{one_form}
@@ -94,6 +101,13 @@ any-not_refused t bytes _ (of_trees c) named right (any_too_long long) = absurd 
 any-not_refused t bytes _ (of_trees c) named right (no_cuts line begins refusal) = right.0 begins
 any-not_refused t bytes _ (of_trees c) named right (none_of_trees line none refusal) = trees-not_refused t bytes line c named right.1 refusal
 
+stops-not_refused : (bytes line : List ℕ) (t : Stops) → IsStopsIn bytes t → IsStopRefusal bytes line → ⊥
+stops-not_refused bytes _ t right (stops_too_long long) = absurd (omega (arith, right.short))
+stops-not_refused bytes _ t right (no_load fault line short why is) =
+    let lawful = subst AreLawfulStops right.is right.lawful in
+    let none : fault ≡ stop.NoMemory = load_not_refused bytes right.file fault right.spelled right.tasks lawful why in
+    rw none at is
+
 -- the files of a job are not refused where they are right
 right-not_bad : (files : Files) (job : Job) (line : List ℕ) → IsBadInput files job line → HasInput files job → ⊥
 right-not_bad files _ _ (bad_task task budget line wrong) input =
@@ -129,6 +143,8 @@ right-not_bad files _ _ (bad_prices task certificate t line there wrong) input =
     both (files certificate) (λ bytes. IsPricedIn t bytes input.1) (λ bytes. IsPricedRefusal t bytes line)
     (subst (λ (p : Problem). IsPricedFile files certificate p input.1) same input.3) wrong
     (λ evidence whole refusal. prices-not_refused t evidence line input.1 (names bytes t other) whole refusal))
+right-not_bad files _ _ (bad_stops file budget line wrong) input =
+    both (files file) (λ bytes. IsStopsIn bytes input.0) (λ bytes. IsStopRefusal bytes line) input.1 wrong (λ bytes right refusal. stops-not_refused bytes line input.0 right refusal)
 
 -- Answers ---------------------------------------------------------------------------------------
 
@@ -170,6 +186,11 @@ pub priced-judgement-answered : (t : Problem) (c : PricedCertificate) (outcome :
 priced-judgement-answered t c _ _ (good_prices is so) = is_done
 priced-judgement-answered t c _ _ (rejected_prices reason first) = is_rejected
 
+pub stop-placing-answered : (t : Stops) (budget : ℕ) (outcome : Outcome) (text : List ℕ) → IsStopPlacing t budget outcome text → IsAnswered outcome
+stop-placing-answered t budget _ _ (stop_plan path best enough) = is_done
+stop-placing-answered t budget _ _ (stop_nothing_fits none enough) = is_nothing_fits
+stop-placing-answered t budget _ _ (stop_over_budget more) = is_over_budget
+
 answer-answered : (files : Files) (job : Job) (outcome : Outcome) (text : List ℕ) → IsAnswer files job outcome text → IsAnswered outcome
 answer-answered files _ _ _ (placed task budget t outcome text file is) = placing-answered t budget outcome text is
 answer-answered files _ _ _ (judged task certificate t c outcome text file evidence is) = judgement-answered t c outcome text is
@@ -177,6 +198,7 @@ answer-answered files _ _ _ (placed_by_trees task looks t outcome text file is) 
 answer-answered files _ _ _ (any_judged task certificate t c outcome text file evidence is) = any-judgement-answered t c outcome text is
 answer-answered files _ _ _ (placed_with_prices task budget t outcome text file is) = priced-placing-answered t budget outcome text is
 answer-answered files _ _ _ (prices_judged task certificate t c outcome text file evidence is) = priced-judgement-answered t c outcome text is
+answer-answered files _ _ _ (placed_over_sectors file budget t outcome text read is) = stop-placing-answered t budget outcome text is
 answer-answered files _ _ _ (summed number outcome text is) = summary-answered number outcome text is
 
 answer-input : (files : Files) (job : Job) (outcome : Outcome) (text : List ℕ) → IsAnswer files job outcome text → HasInput files job
@@ -186,6 +208,7 @@ answer-input files _ _ _ (placed_by_trees task looks t outcome text file is) = (
 answer-input files _ _ _ (any_judged task certificate t c outcome text file evidence is) = (t, c, file, evidence)
 answer-input files _ _ _ (placed_with_prices task budget t outcome text file is) = (t, file)
 answer-input files _ _ _ (prices_judged task certificate t c outcome text file evidence is) = (t, c, file, evidence)
+answer-input files _ _ _ (placed_over_sectors file budget t outcome text read is) = (t, read)
 answer-input files _ _ _ (summed number outcome text is) = tt
 
 pub answered-not_usage : (outcome : Outcome) → IsAnswered outcome → outcome ≢ Usage

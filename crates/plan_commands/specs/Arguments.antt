@@ -28,6 +28,13 @@ greatest_looks = 1000000
 abbrev pub greatest_priced_budget : ℕ
 greatest_priced_budget = 500
 
+-- the budget of a search over several sectors if the arguments name none, and the greatest one
+abbrev pub usual_stop_budget : ℕ
+usual_stop_budget = 2000
+
+abbrev pub greatest_stop_budget : ℕ
+greatest_stop_budget = 5000
+
 -- what the program can be asked for
 pub data Job : Type 0 where
   -- the best placement of the task in a file, with a budget
@@ -42,6 +49,8 @@ pub data Job : Type 0 where
   priced : (task : List ℕ) (budget : ℕ) → Job
   -- whether a certificate with prices in a file is good for the task in another
   check_priced : (task certificate : List ℕ) → Job
+  -- the best placement of the load over several sectors in a file, with a budget
+  stops : (file : List ℕ) (budget : ℕ) → Job
   -- the placement of the load that is made from a number
   generate : (number : ℕ) → Job
 
@@ -71,6 +80,11 @@ pub data AskFor (arguments : List (List ℕ)) : Job → Type 0 where
   -- `pricedcheck TASK CERTIFICATE`
   check_prices : (task certificate : List ℕ) → arguments ≡ codes "pricedcheck" ∷ task ∷ certificate ∷ []
       → AskFor arguments (check_priced task certificate)
+  -- `stops FILE`
+  stops_usually : (file : List ℕ) → arguments ≡ codes "stops" ∷ file ∷ [] → AskFor arguments (stops file usual_stop_budget)
+  -- `stops FILE BUDGET`
+  stops_within : (file : List ℕ) (budget : ℕ) → arguments ≡ codes "stops" ∷ file ∷ number_text budget ∷ [] → 1 ≤ budget → budget ≤ greatest_stop_budget
+      → AskFor arguments (stops file budget)
   -- `gen NUMBER`
   generate_load : (number : ℕ) → arguments ≡ codes "gen" ∷ number_text number ∷ [] → number < 2 ^ 32 → AskFor arguments (generate number)
 

@@ -9,6 +9,7 @@ pub mod Names
 pub mod NearReply
 pub mod TreeReply
 pub mod PricedReply
+pub mod StopReply
 pub mod AnyReply
 pub mod Reply
 pub mod Run

@@ -5,6 +5,8 @@ use Rattle.placer.specs.declared.answer.Answer.{Answer}
 use Rattle.placer.specs.declared.answer.Answer.TheVariants.{Best, NoneFits, Budget}
 use Rattle.priced_placer.specs.declared.answer.PricedAnswer.{PricedAnswer}
 use Rattle.priced_placer.specs.declared.answer.PricedAnswer.TheVariants as priced
+use Rattle.stop_placer.specs.declared.answer.StopAnswer.{StopAnswer}
+use Rattle.stop_placer.specs.declared.answer.StopAnswer.TheVariants as stops
 use Rattle.plan_commands.specs.declared.ending.Outcome.{Outcome}
 use Rattle.plan_commands.specs.declared.ending.Outcome.TheVariants.{Done, NothingFits, OverBudget}
 use Rattle.plan_commands.specs.ReplyText.{plan_summary, none_summary, budget_summary}
@@ -18,6 +20,11 @@ abbrev pub priced_outcome : PricedAnswer → Outcome
 priced_outcome (priced.Best c) = Done
 priced_outcome (priced.NoneFits c) = NothingFits
 priced_outcome (priced.Budget n) = OverBudget
+
+abbrev pub stop_outcome : StopAnswer → Outcome
+stop_outcome (stops.Best path) = Done
+stop_outcome stops.NoneFits = NothingFits
+stop_outcome (stops.Budget n) = OverBudget
 
 abbrev pub summary_outcome : Answer → Outcome
 summary_outcome (Best proven) = Done

@@ -11,16 +11,18 @@ use Rattle.certificate.specs.declared.parts.Certificate.{Certificate}
 use Rattle.priced_certificate.specs.declared.parts.PricedCertificate.{PricedCertificate}
 use Rattle.cert_checker.specs.Claims.{HasNoPlacement}
 use Rattle.placer.specs.Near.{AreMoreThan, IsNear}
+use Rattle.stop_tasks.specs.Stops.{Stops}
 use Rattle.generated_load.specs.Load.{generated_problem}
 use Rattle.load_io.specs.Shelf.{Files}
 use Rattle.plan_commands.specs.declared.ending.Outcome.{Outcome}
 use Rattle.plan_commands.specs.declared.ending.Outcome.TheVariants.{Done, Usage, BadInput, NothingFits, OverBudget, Undecided, Rejected}
 use Rattle.plan_commands.specs.Arguments.{Job, IsCommand, AreInvalid, usual_budget}
-use Rattle.plan_commands.specs.Arguments.Job.{place, check, best, check_any, priced, check_priced, generate}
+use Rattle.plan_commands.specs.Arguments.Job.{place, check, best, check_any, priced, check_priced, stops, generate}
 use Rattle.plan_commands.specs.ReplyText.{longest_task, IsFaultLine, long_text, usage_text, plan_summary, none_summary, budget_summary}
 use Rattle.plan_commands.specs.NearReply.{IsCertificateIn, IsCertificateRefusal, IsEvidence, IsPlacing, IsJudgement}
 use Rattle.plan_commands.specs.TreeReply.{IsTreePlacing}
 use Rattle.plan_commands.specs.PricedReply.{IsPricedIn, IsPricedRefusal, IsPricedPlacing, IsPricedJudgement}
+use Rattle.plan_commands.specs.StopReply.{IsStopsIn, IsStopRefusal, IsStopPlacing}
 use Rattle.plan_commands.specs.AnyReply.{AnyListed, IsAnyIn, IsAnyRefusal, IsAnyJudgement}
 
 -- Files -----------------------------------------------------------------------------------------
@@ -68,6 +70,12 @@ IsPricedFile files name t c = Holds files name (λ bytes. IsPricedIn t bytes c)
 abbrev pub IsRefusedPriced : Files → List ℕ → Problem → List ℕ → Type 0
 IsRefusedPriced files name t line = Holds files name (λ bytes. IsPricedRefusal t bytes line)
 
+abbrev pub IsStopsFile : Files → List ℕ → Stops → Type 0
+IsStopsFile files name t = Holds files name (λ bytes. IsStopsIn bytes t)
+
+abbrev pub IsRefusedStopsFile : Files → List ℕ → List ℕ → Type 0
+IsRefusedStopsFile files name line = Holds files name (λ bytes. IsStopRefusal bytes line)
+
 -- Answers ---------------------------------------------------------------------------------------
 
 -- the summary of the placement of a generated load
@@ -92,6 +100,8 @@ pub data IsAnswer (files : Files) : Job → Outcome → List ℕ → Type 0 wher
       → IsPricedPlacing t budget outcome text → IsAnswer files (priced task budget) outcome text
   prices_judged : (task certificate : List ℕ) (t : Problem) (c : PricedCertificate) (outcome : Outcome) (text : List ℕ) → IsTaskFile files task t
       → IsPricedFile files certificate t c → IsPricedJudgement t c outcome text → IsAnswer files (check_priced task certificate) outcome text
+  placed_over_sectors : (file : List ℕ) (budget : ℕ) (t : Stops) (outcome : Outcome) (text : List ℕ) → IsStopsFile files file t
+      → IsStopPlacing t budget outcome text → IsAnswer files (stops file budget) outcome text
   summed : (number : ℕ) (outcome : Outcome) (text : List ℕ) → IsSummary number outcome text → IsAnswer files (generate number) outcome text
 
 -- the first file of a job that is refused, and its line
@@ -108,6 +118,7 @@ pub data IsBadInput (files : Files) : Job → List ℕ → Type 0 where
   bad_task_of_prices : (task certificate line : List ℕ) → IsRefusedTask files task line → IsBadInput files (check_priced task certificate) line
   bad_prices : (task certificate : List ℕ) (t : Problem) (line : List ℕ) → IsTaskFile files task t → IsRefusedPriced files certificate t line
       → IsBadInput files (check_priced task certificate) line
+  bad_stops : (file : List ℕ) (budget : ℕ) (line : List ℕ) → IsRefusedStopsFile files file line → IsBadInput files (stops file budget) line
 
 -- the reply to the arguments: an outcome and its text
 pub data IsReply (arguments : List (List ℕ)) (files : Files) : Outcome → List ℕ → Type 0 where
@@ -150,6 +161,7 @@ HasInput files (best task looks) = (t : Problem) × IsTaskFile files task t
 HasInput files (check_any task certificate) = (t : Problem) × (c : AnyListed) × IsTaskFile files task t × IsAnyFile files certificate t c
 HasInput files (priced task budget) = (t : Problem) × IsTaskFile files task t
 HasInput files (check_priced task certificate) = (t : Problem) × (c : PricedCertificate) × IsTaskFile files task t × IsPricedFile files certificate t c
+HasInput files (stops file budget) = (t : Stops) × IsStopsFile files file t
 HasInput files (generate number) = Unit {0}
 
 -- the arguments are a command whose files are there and right

@@ -7,6 +7,10 @@ use Rattle.hold_limits.specs.declared.fault.HoldFault.TheVariants as hold
 use Rattle.hold_limits.specs.declared.fault.TaskFault.{TaskFault}
 use Rattle.hold_limits.specs.declared.fault.TaskFault.TheVariants as task
 use Rattle.hold_limits.specs.Problem.{Problem}
+use Rattle.stop_tasks.specs.declared.fault.StopFault.{StopFault}
+use Rattle.stop_tasks.specs.declared.fault.StopFault.TheVariants as stop
+use Rattle.stop_text.specs.declared.fault.StopTextFault.{StopTextFault}
+use Rattle.stop_text.specs.declared.fault.StopTextFault.TheVariants as stops
 use Rattle.text_lines.specs.Lines.{line_of, text_of}
 use Rattle.problem_text.specs.declared.fault.TextFault.{TextFault}
 use Rattle.problem_text.specs.declared.fault.TextFault.TheVariants as text
@@ -33,7 +37,8 @@ usage_text = one_line (codes "USAGE" ∷ [])
 
 -- Refused files ---------------------------------------------------------------------------------
 
--- a file of a task, and one of a certificate of cuts or of trees, and one with prices, has at most so many bytes
+-- a file of a task or of a load over several sectors, and one of a certificate of cuts or of trees, and one with
+-- prices, has at most so many bytes
 abbrev pub longest_task : ℕ
 longest_task = 1048576
 
@@ -50,7 +55,7 @@ long_text = one_line (codes "INPUT" ∷ codes "LONG" ∷ [])
 abbrev pub input_text : List ℕ → ℕ → List ℕ
 input_text kind n = one_line (codes "INPUT" ∷ kind ∷ number_text n ∷ [])
 
--- the number of a fault of a hold, and of a task
+-- the number of a fault of a hold, of a task, and of a load over several sectors
 abbrev pub hold_fault_number : HoldFault → ℕ
 hold_fault_number (hold.Positions n) = 1
 hold_fault_number (hold.SameName at) = 2
@@ -72,6 +77,13 @@ task_fault_number (task.LooseTwice at) = 5
 task_fault_number (task.LooseTooHeavy at) = 6
 task_fault_number (task.Range which) = 7
 
+abbrev pub stop_fault_number : StopFault → ℕ
+stop_fault_number (stop.Sectors number) = 1
+stop_fault_number (stop.Holds number) = 2
+stop_fault_number stop.Leaves = 3
+stop_fault_number (stop.Aboard number) = 4
+stop_fault_number (stop.Behind at) = 5
+
 -- the line for a fault of a task's text; out of memory has none
 abbrev pub IsFaultLine : TextFault → List ℕ → Type 0
 IsFaultLine (text.Line n) line = line ≡ input_text (codes "LINE") n
@@ -79,6 +91,15 @@ IsFaultLine text.NoEnd line = line ≡ one_line (codes "INPUT" ∷ codes "END" �
 IsFaultLine (text.Hold fault) line = line ≡ input_text (codes "HOLD") (hold_fault_number fault)
 IsFaultLine (text.Task fault) line = line ≡ input_text (codes "TASK") (task_fault_number fault)
 IsFaultLine text.NoMemory line = ⊥
+
+-- the line for a fault of the text of a load over several sectors: a fault of one of its tasks is told as that of a
+-- task's text. Out of memory has none
+abbrev pub IsStopFaultLine : StopTextFault → List ℕ → Type 0
+IsStopFaultLine (stops.Line n) line = line ≡ input_text (codes "LINE") n
+IsStopFaultLine stops.NoEnd line = line ≡ one_line (codes "INPUT" ∷ codes "END" ∷ [])
+IsStopFaultLine (stops.Task sector fault) line = IsFaultLine fault line
+IsStopFaultLine (stops.Stop fault) line = line ≡ input_text (codes "STOPS") (stop_fault_number fault)
+IsStopFaultLine stops.NoMemory line = ⊥
 
 -- the line for a fault of a certificate's text
 abbrev pub IsCertificateFaultLine : CertFault → List ℕ → Type 0

@@ -21,6 +21,12 @@ const GREATEST_LOOKS: u32 = 1_000_000;
 /// The greatest budget of a search with prices, and its budget if the arguments name none.
 const GREATEST_PRICED_BUDGET: u32 = 500;
 
+/// The budget of a search over several sectors if the arguments name none.
+const USUAL_STOP_BUDGET: u32 = 2_000;
+
+/// The greatest budget of a search over several sectors.
+const GREATEST_STOP_BUDGET: u32 = 5_000;
+
 /// What the arguments ask for.
 #[derive(Clone, Copy, Debug)]
 pub enum Command<'a> {
@@ -39,6 +45,9 @@ pub enum Command<'a> {
     Priced { task: &'a str, budget: u32 },
     /// `pricedcheck TASK CERTIFICATE`: whether the certificate with prices in a file is good for the task in another.
     CheckPriced { task: &'a str, certificate: &'a str },
+    /// `stops FILE` or `stops FILE BUDGET`: the best placement of the load over several sectors in a file. The budget
+    /// is how many near prefixes the search may look at.
+    Stops { file: &'a str, budget: u32 },
     /// `gen NUMBER`: the best placement of the load that is made from the number.
     Generate { number: u32 },
 }
@@ -74,7 +83,7 @@ fn number_from(argument: &str) -> Option<u32>
     read_long_number(argument.as_bytes())
 }
 
-/// `place TASK`, `best TASK`, `priced TASK`, or `gen NUMBER`.
+/// `place TASK`, `best TASK`, `priced TASK`, `stops FILE`, or `gen NUMBER`.
 fn with_one_operand<'a>(name: &str, operand: &'a str) -> Option<Command<'a>>
     ensures some { IfSome result (λ command. AskFor (name.now ∷ operand.now ∷ []) (job_of command)) }
     ensures none { IfNone result ((job : Job) → AskFor (name.now ∷ operand.now ∷ []) job → ⊥) }
@@ -97,6 +106,12 @@ fn with_one_operand<'a>(name: &str, operand: &'a str) -> Option<Command<'a>>
             budget: GREATEST_PRICED_BUDGET,
         });
     }
+    if name == "stops" {
+        return Some(Command::Stops {
+            file: operand,
+            budget: USUAL_STOP_BUDGET,
+        });
+    }
     if name == "gen" {
         let number = number_from(operand)?;
         return Some(Command::Generate { number });
@@ -104,7 +119,8 @@ fn with_one_operand<'a>(name: &str, operand: &'a str) -> Option<Command<'a>>
     None
 }
 
-/// `place TASK BUDGET`, `best TASK LOOKS`, `priced TASK BUDGET`, or a check of a certificate in a file.
+/// `place TASK BUDGET`, `best TASK LOOKS`, `priced TASK BUDGET`, `stops FILE BUDGET`, or a check of a certificate in a
+/// file.
 fn with_two_operands<'a>(name: &str, task: &'a str, other: &'a str) -> Option<Command<'a>>
     ensures some { IfSome result
         (λ command. AskFor (name.now ∷ task.now ∷ other.now ∷ []) (job_of command)) }
@@ -121,6 +137,10 @@ fn with_two_operands<'a>(name: &str, task: &'a str, other: &'a str) -> Option<Co
     if name == "priced" {
         let budget = effort_from(other, GREATEST_PRICED_BUDGET)?;
         return Some(Command::Priced { task, budget });
+    }
+    if name == "stops" {
+        let budget = effort_from(other, GREATEST_STOP_BUDGET)?;
+        return Some(Command::Stops { file: task, budget });
     }
     let certificate = other;
     if name == "check" {

@@ -38,7 +38,7 @@ pub enum Outcome {
     Done,
     /// The arguments are invalid.
     Usage,
-    /// A file is too long, or its bytes spell no lawful task or no certificate.
+    /// A file is too long, or its bytes spell no lawful task, no certificate or no lawful load over several sectors.
     BadInput,
     /// No placement is admissible.
     NothingFits,

@@ -8,22 +8,27 @@ ghost use Rattle.tree_certificate.specs.Listed.{listed_trees};
 ghost use Rattle.plan_commands.specs.NearReply.{IsCertificateIn, IsCertificateRefusal};
 ghost use Rattle.plan_commands.specs.TreeReply.{AreTreesIn, IsTreeRefusal};
 ghost use Rattle.plan_commands.specs.PricedReply.{IsPricedIn, IsPricedRefusal};
+ghost use Rattle.plan_commands.specs.StopReply.{IsStopsIn, IsStopRefusal};
 ghost use Rattle.plan_commands.specs.AnyReply.{any_listed, IsAnyIn, IsAnyRefusal};
-ghost use Rattle.plan_commands.specs.Reply.{IsTaskIn, IsRefusal, IsTaskFile, IsRefusedTask, IsCertificateFile, IsRefusedCertificate, IsAnyFile, IsRefusedAny, IsPricedFile, IsRefusedPriced};
+ghost use Rattle.plan_commands.specs.Reply.{IsTaskIn, IsRefusal, IsTaskFile, IsRefusedTask, IsCertificateFile, IsRefusedCertificate, IsAnyFile, IsRefusedAny, IsPricedFile, IsRefusedPriced, IsStopsFile, IsRefusedStopsFile};
 ghost use Rattle.plan_commands.specs.Halts.{IfBadInput};
 
 use crate::any_certificate::{AnyCertificate, begins_with_cuts};
 use crate::ending::Halt;
-use crate::reply_text::{line_of_certificate_fault, line_of_fault, two_word_line};
+use crate::reply_text::{
+    line_of_certificate_fault, line_of_fault, line_of_stop_fault, two_word_line,
+};
 use certificate::{Certificate, read_certificate};
 use hold_limits::Task;
 use load_io::{Shelf, ShelfFault};
 use priced_certificate::{PricedCertificate, read_priced};
 use problem_text::read_task;
 use std::alloc::Global;
+use stop_tasks::StopTask;
+use stop_text::read_stops;
 use tree_certificate::{TreeCertificate, read_trees};
 
-/// The greatest length of a task's file, in bytes.
+/// The greatest length of a file with a task or with a load over several sectors, in bytes.
 pub const LONGEST_TASK: usize = 1_048_576;
 
 /// The greatest length of a file with a certificate of cuts or of trees, in bytes.
@@ -134,6 +139,19 @@ fn priced_of(alloc: Global, task: &Task, bytes: &[u8]) -> Result<PricedCertifica
     }
 }
 
+/// The load over several sectors that the bytes of a file spell.
+fn stops_of(alloc: Global, bytes: &[u8]) -> Result<StopTask, Halt>
+    requires { length bytes.now ≤ longest_task }
+    ensures read { IfOk result (IsStopsIn bytes.now) }
+    ensures refused { IfErr result (λ halt. IfBadInput halt (IsStopRefusal bytes.now)) }
+    ensures unread { result ≢ Err Halt.ReadFault }
+{
+    match read_stops(alloc, bytes) {
+        Ok(stops) => Ok(stops),
+        Err(fault) => Err(Halt::BadInput(line_of_stop_fault(alloc, fault)?)),
+    }
+}
+
 /// The task in a file.
 pub fn task_from<F: Shelf>(alloc: Global, shelf: &mut F, name: &str) -> Result<Task, Halt>
     ensures read { IfOk result (λ task. IfSome (F.files shelf.old) (λ files. IsTaskFile files name.now task)) }
@@ -202,4 +220,17 @@ pub fn priced_from<F: Shelf>(
 {
     let bytes = bytes_from(alloc, shelf, name, LONGEST_PRICED)?;
     priced_of(alloc, task, bytes.as_slice())
+}
+
+/// The load over several sectors in a file.
+pub fn stops_from<F: Shelf>(alloc: Global, shelf: &mut F, name: &str) -> Result<StopTask, Halt>
+    ensures read { IfOk result (λ t. IfSome (F.files shelf.old) (λ files. IsStopsFile files name.now t)) }
+    ensures refused { IfErr result (λ halt. IfBadInput halt
+        (λ line. IfSome (F.files shelf.old) (λ files. IsRefusedStopsFile files name.now line))) }
+    ensures counted { result ≡ Err Halt.ReadFault → Rose (F.faults shelf.old) (F.faults shelf.new) }
+    ensures uncounted { result ≢ Err Halt.ReadFault → F.faults shelf.new ≡ F.faults shelf.old }
+    ensures same { F.files shelf.new ≡ F.files shelf.old }
+{
+    let bytes = bytes_from(alloc, shelf, name, LONGEST_TASK)?;
+    stops_of(alloc, bytes.as_slice())
 }

@@ -15,10 +15,11 @@ ghost use Rattle.text_lines.specs.Lines.{text_of};
 
 use crate::arguments::{Command, USUAL_BUDGET};
 use crate::ending::{Halt, Outcome, Reply};
-use crate::files::{any_from, certificate_from, priced_from, task_from};
+use crate::files::{any_from, certificate_from, priced_from, stops_from, task_from};
 use crate::near_jobs::{has_good_evidence, judgement, placement};
 use crate::priced_jobs::{judgement_of_prices, placing_with_prices};
 use crate::reply_text::push_number_line;
+use crate::stop_jobs::placing_over_sectors;
 use crate::tree_jobs::{judgement_of_any, placing_by_trees};
 use base_words::NoMemory;
 use cert_checker::{NoPlan, Proven};
@@ -189,6 +190,10 @@ pub fn answer_to<F: Shelf, P: Placing>(
             let task = task_from(alloc, shelf, task)?;
             let certificate = priced_from(alloc, shelf, &task, certificate)?;
             Ok(judgement_of_prices(alloc, &task, &certificate)?)
+        }
+        Command::Stops { file, budget } => {
+            let stops = stops_from(alloc, shelf, file)?;
+            Ok(placing_over_sectors(alloc, &stops, budget)?)
         }
         Command::Generate { number } => Ok(summary(alloc, number, placing)?),
     }

@@ -1,4 +1,5 @@
-//! The commands about one task: from their arguments to the reply that is printed and the exit status.
+//! The commands about one task, or about one load over several sectors: from their arguments to the reply that is
+//! printed and the exit status.
 #![tactic(auto)]
 
 mod any_certificate;
@@ -12,6 +13,7 @@ mod priced_jobs;
 mod printing;
 mod reply_text;
 mod spelled;
+mod stop_jobs;
 mod tree_jobs;
 
 pub use arguments::{Command, are_plain, command_of};

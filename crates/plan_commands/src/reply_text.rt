@@ -2,7 +2,7 @@
 
 ghost use Rattle.std.specs.Prelude.{◌≡◌, ◌++◌, ◌∷◌, [], IfOk, OnOk};
 ghost use Rattle.plan_text.specs.PlanText.{one_line};
-ghost use Rattle.plan_commands.specs.ReplyText.{hold_fault_number, task_fault_number, input_text, number_line, good_text, rejected_at_text, rejected_text, undecided_text, IsFaultLine, IsCertificateFaultLine, IsTreeRejectionLine};
+ghost use Rattle.plan_commands.specs.ReplyText.{hold_fault_number, task_fault_number, stop_fault_number, input_text, number_line, good_text, rejected_at_text, rejected_text, undecided_text, IsFaultLine, IsStopFaultLine, IsCertificateFaultLine, IsTreeRejectionLine};
 ghost use Rattle.text_lines.specs.Lines.{text_of};
 ghost use Rattle.certificate.specs.CertificateText.{path_line};
 
@@ -12,6 +12,8 @@ use hold_limits::{HoldFault, Path, Task, TaskFault};
 use priced_checker::PricedReject;
 use problem_text::TextFault;
 use std::alloc::Global;
+use stop_tasks::StopFault;
+use stop_text::StopTextFault;
 use telex::Builder;
 use tree_checker::TreeRejection;
 
@@ -87,6 +89,18 @@ fn number_of_task_fault(fault: TaskFault) -> u64
     }
 }
 
+fn number_of_stop_fault(fault: StopFault) -> u64
+    ensures { result ≡ stop_fault_number fault }
+{
+    match fault {
+        StopFault::Sectors(_) => 1,
+        StopFault::Holds(_) => 2,
+        StopFault::Leaves => 3,
+        StopFault::Aboard(_) => 4,
+        StopFault::Behind(_) => 5,
+    }
+}
+
 /// The line that reports a fault of a task's text.
 pub fn line_of_fault(alloc: Global, fault: TextFault) -> Result<Vec<u8>, NoMemory>
     ensures { IfOk result (λ text. IsFaultLine fault text.items) }
@@ -97,6 +111,19 @@ pub fn line_of_fault(alloc: Global, fault: TextFault) -> Result<Vec<u8>, NoMemor
         TextFault::Hold(fault) => input_line(alloc, b"HOLD", number_of_hold_fault(fault)),
         TextFault::Task(fault) => input_line(alloc, b"TASK", number_of_task_fault(fault)),
         TextFault::NoMemory => Err(NoMemory),
+    }
+}
+
+/// The line that reports a fault of the text of a load over several sectors.
+pub fn line_of_stop_fault(alloc: Global, fault: StopTextFault) -> Result<Vec<u8>, NoMemory>
+    ensures { IfOk result (λ text. IsStopFaultLine fault text.items) }
+{
+    match fault {
+        StopTextFault::Line(number) => input_line(alloc, b"LINE", number as u64),
+        StopTextFault::NoEnd => two_word_line(alloc, b"INPUT", b"END"),
+        StopTextFault::Task(_, fault) => line_of_fault(alloc, fault),
+        StopTextFault::Stop(fault) => input_line(alloc, b"STOPS", number_of_stop_fault(fault)),
+        StopTextFault::NoMemory => Err(NoMemory),
     }
 }
 

@@ -1,7 +1,7 @@
 use Rattle.plan_commands.proofs.FileLemmas.{IfErr-from_residual}
 use Rattle.plan_commands.specs.AnyReply.{any_listed}
-use Rattle.plan_commands.proofs.AnswerLemmas.{bad-task, bad-checked_task, bad-certificate, bad-best_task, bad-task_of_any, bad-any, bad-priced_task, bad-task_of_prices, bad-prices, placed-answer, judged-answer, placed-by_trees-answer, any-judged-answer, placed-with_prices-answer, prices-judged-answer, summed-answer}
-use Rattle.plan_commands.proofs.ReplyLemmas.{placing-answered, judgement-answered, tree-placing-answered, any-judgement-answered, priced-placing-answered, priced-judgement-answered, summary-answered}
+use Rattle.plan_commands.proofs.AnswerLemmas.{bad-task, bad-checked_task, bad-certificate, bad-best_task, bad-task_of_any, bad-any, bad-priced_task, bad-task_of_prices, bad-prices, bad-stops, placed-answer, judged-answer, placed-by_trees-answer, any-judged-answer, placed-with_prices-answer, prices-judged-answer, placed-over_sectors-answer, summed-answer}
+use Rattle.plan_commands.proofs.ReplyLemmas.{placing-answered, judgement-answered, tree-placing-answered, any-judgement-answered, priced-placing-answered, priced-judgement-answered, stop-placing-answered, summary-answered}
 use Rattle.plan_commands.proofs.jobs.answer_to.Goals as goal
 
 pub returns-in_err-task-in-Place-clause-refused : goal.returns-in_err-task-in-Place-clause-refused
@@ -134,3 +134,20 @@ returns-in_ok-placing_with_prices-in-Priced-clause-answers g c = priced-placing-
 
 pub returns-in_ok-judgement_of_prices-in-CheckPriced-clause-answers : goal.returns-in_ok-judgement_of_prices-in-CheckPriced-clause-answers
 returns-in_ok-judgement_of_prices-in-CheckPriced-clause-answers g c = priced-judgement-answered _ _ _ _ c.in_ok-judgement_of_prices-in-CheckPriced.ensures
+
+-- Commands for loads over several sectors -------------------------------------------------------
+
+pub returns-in_err-stops-in-Stops-clause-refused : goal.returns-in_err-stops-in-Stops-clause-refused
+returns-in_err-stops-in-Stops-clause-refused g c =
+    let halt = c.in_err-stops-in-Stops.field-0.0 in
+    rw c.in-Stops.is
+    (IfErr-from_residual c.from_residual-in_err-stops-in-Stops.result halt _ c.from_residual-in_err-stops-in-Stops.ensures.1
+    (bad-stops halt (g.F.Shelf.files c.args.shelf.now) c.in-Stops.file.now c.in-Stops.budget c.in_err-stops-in-Stops.ensures.refused))
+
+pub returns-in_ok-placing_over_sectors-in-Stops-clause-answered : goal.returns-in_ok-placing_over_sectors-in-Stops-clause-answered
+returns-in_ok-placing_over_sectors-in-Stops-clause-answered g c =
+    rw c.in-Stops.is
+    (placed-over_sectors-answer (g.F.Shelf.files c.args.shelf.now) c.in-Stops.file.now c.in-Stops.budget c.in_ok-stops-in-Stops.stops _ _ c.in_ok-stops-in-Stops.ensures.read c.in_ok-placing_over_sectors-in-Stops.ensures)
+
+pub returns-in_ok-placing_over_sectors-in-Stops-clause-answers : goal.returns-in_ok-placing_over_sectors-in-Stops-clause-answers
+returns-in_ok-placing_over_sectors-in-Stops-clause-answers g c = stop-placing-answered _ _ _ _ c.in_ok-placing_over_sectors-in-Stops.ensures
