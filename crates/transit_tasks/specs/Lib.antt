@@ -1,0 +1,4 @@
+pub mod Staying
+pub mod Joined
+pub mod NewTask
+pub mod TransitFaults
