@@ -5,18 +5,19 @@ use Rattle.load_io.specs.Shelf.{Files}
 use Rattle.hold_limits.specs.Problem.{Problem}
 use Rattle.stop_tasks.specs.Stops.{Stops}
 use Rattle.certificate.specs.declared.parts.Certificate.{Certificate}
-use Rattle.plan_commands.specs.declared.ending.Outcome.{Outcome}
+use Rattle.plan_answers.specs.declared.reply.Outcome.{Outcome}
 use Rattle.plan_commands.specs.declared.ending.Halt.{Halt}
 use Rattle.plan_commands.specs.declared.ending.Halt.TheVariants.{BadInput, ReadFault, NoMemory}
 use Rattle.plan_commands.specs.Halts.{IfBadInput}
 use Rattle.plan_commands.specs.Arguments.Job.{place, check, best, check_any, priced, check_priced, stops, generate}
-use Rattle.plan_commands.specs.NearReply.{IsPlacing, IsJudgement}
-use Rattle.plan_commands.specs.TreeReply.{IsTreePlacing}
+use Rattle.plan_answers.specs.NearReply.{IsPlacing, IsJudgement}
+use Rattle.plan_answers.specs.TreeReply.{IsTreePlacing}
 use Rattle.priced_certificate.specs.declared.parts.PricedCertificate.{PricedCertificate}
-use Rattle.plan_commands.specs.PricedReply.{IsPricedPlacing, IsPricedJudgement}
-use Rattle.plan_commands.specs.StopReply.{IsStopPlacing}
-use Rattle.plan_commands.specs.AnyReply.{AnyListed, IsAnyJudgement}
-use Rattle.plan_commands.specs.Reply.{IsTaskFile, IsRefusedTask, IsCertificateFile, IsRefusedCertificate, IsAnyFile, IsRefusedAny, IsPricedFile, IsRefusedPriced, IsStopsFile, IsRefusedStopsFile, IsSummary, IsAnswer, IsBadInput, IsAnswerOver, IsBadInputOver}
+use Rattle.plan_answers.specs.PricedReply.{IsPricedPlacing, IsPricedJudgement}
+use Rattle.plan_answers.specs.StopReply.{IsStopPlacing}
+use Rattle.plan_answers.specs.AnyReply.{AnyListed, IsAnyJudgement}
+use Rattle.plan_commands.specs.Reply.{IsTaskFile, IsRefusedTask, IsCertificateFile, IsRefusedCertificate, IsAnyFile, IsRefusedAny, IsPricedFile, IsRefusedPriced, IsStopsFile, IsRefusedStopsFile, IsAnswer, IsBadInput, IsAnswerOver, IsBadInputOver}
+use Rattle.plan_answers.specs.SummaryReply.{IsSummary}
 use Rattle.plan_commands.specs.Reply.IsAnswer.{placed, judged, placed_by_trees, any_judged, placed_with_prices, prices_judged, placed_over_sectors, summed}
 use Rattle.plan_commands.specs.Reply.IsBadInput.{bad_task, bad_checked_task, bad_certificate, bad_best_task, bad_task_of_any, bad_any, bad_priced_task, bad_task_of_prices, bad_prices, bad_stops}
 

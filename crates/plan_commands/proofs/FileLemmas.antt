@@ -8,17 +8,20 @@ use Rattle.plan_commands.specs.Halts.{IfBadInput}
 use Rattle.std.specs.Prelude.{IfSome}
 use Rattle.load_io.specs.Shelf.{Files, HasMoreThan}
 use Rattle.hold_limits.specs.Problem.{Problem}
-use Rattle.plan_commands.specs.ReplyText.{longest_task, longest_certificate, longest_priced, long_text}
+use Rattle.plan_answers.specs.ReplyText.{long_text}
+use Rattle.plan_answers.specs.Limits.{longest_task, longest_certificate, longest_priced}
 use Rattle.plan_commands.specs.Reply.{IsRefusal, Holds}
-use Rattle.plan_commands.specs.NearReply.{IsCertificateRefusal}
-use Rattle.plan_commands.specs.PricedReply.{IsPricedRefusal}
-use Rattle.plan_commands.specs.PricedReply.IsPricedRefusal.{too_long as prices_too_long}
-use Rattle.plan_commands.specs.StopReply.{IsStopRefusal}
-use Rattle.plan_commands.specs.StopReply.IsStopRefusal.{too_long as stops_too_long}
-use Rattle.plan_commands.specs.AnyReply.{IsAnyRefusal}
-use Rattle.plan_commands.specs.AnyReply.IsAnyRefusal.{too_long as any_too_long}
+use Rattle.plan_answers.specs.NearReply.{IsCertificateRefusal}
+use Rattle.plan_answers.specs.PricedReply.{IsPricedRefusal}
+use Rattle.plan_answers.specs.PricedReply.IsPricedRefusal.{too_long as prices_too_long}
+use Rattle.plan_answers.specs.StopReply.{IsStopRefusal}
+use Rattle.plan_answers.specs.StopReply.IsStopRefusal.{too_long as stops_too_long}
+use Rattle.plan_answers.specs.TreeReply.{IsTreeRefusal}
+use Rattle.plan_answers.specs.Kinds.{BeginsWithCuts}
+use Rattle.plan_answers.specs.AnyReply.{IsAnyRefusal}
+use Rattle.plan_answers.specs.AnyReply.IsAnyRefusal.{too_long as any_too_long, no_cuts, no_trees}
 use Rattle.plan_commands.specs.Reply.IsRefusal.{too_long as task_too_long}
-use Rattle.plan_commands.specs.NearReply.IsCertificateRefusal.{too_long as certificate_too_long}
+use Rattle.plan_answers.specs.NearReply.IsCertificateRefusal.{too_long as certificate_too_long}
 
 longer : (file : Option (List ℕ)) (most : ℕ) (P : List ℕ → Type 0) → IsSomeAnd file (λ bytes. most < length bytes)
     → ((bytes : List ℕ) → most < length bytes → P bytes) → IsSomeAnd file P
@@ -58,3 +61,15 @@ pub long-halt : (halt : Halt) (exposed : Option Files) (name : List ℕ) (most :
 long-halt (BadInput text) exposed name most P long is each = Holds-from_long exposed name most (P text.items) long (λ bytes more. each text.items bytes is more)
 long-halt ReadFault exposed name most P long is each = tt
 long-halt NoMemory exposed name most P long is each = tt
+
+-- Certificates of either kind -------------------------------------------------------------------
+
+pub cuts-halt : (t : Problem) (bytes : List ℕ) (halt : Halt) → BeginsWithCuts bytes → IfBadInput halt (IsCertificateRefusal t bytes) → IfBadInput halt (IsAnyRefusal t bytes)
+cuts-halt t bytes (BadInput line) begins refusal = no_cuts line.items begins refusal
+cuts-halt t bytes ReadFault begins refusal = tt
+cuts-halt t bytes NoMemory begins refusal = tt
+
+pub trees-halt : (t : Problem) (bytes : List ℕ) (halt : Halt) → (BeginsWithCuts bytes → ⊥) → IfBadInput halt (IsTreeRefusal t bytes) → IfBadInput halt (IsAnyRefusal t bytes)
+trees-halt t bytes (BadInput line) none refusal = no_trees line.items none refusal
+trees-halt t bytes ReadFault none refusal = tt
+trees-halt t bytes NoMemory none refusal = tt

@@ -4,7 +4,8 @@ use Rattle.std.specs.Prelude.{codes}
 use Rattle.std.specs.Str.Parse.{digits_value}
 use Rattle.mass_units.proofs.SpellingLemmas.{digits_value-number_text}
 use Rattle.mass_units.specs.Spelling.{number_text}
-use Rattle.plan_commands.specs.Arguments.{Job, AskFor, usual_budget, usual_looks, greatest_priced_budget, usual_stop_budget}
+use Rattle.plan_commands.specs.Arguments.{Job, AskFor, usual_looks, usual_stop_budget}
+use Rattle.plan_answers.specs.Limits.{usual_budget, greatest_priced_budget}
 use Rattle.plan_commands.specs.Arguments.Job.{place, check, best, check_any, priced, check_priced, stops, generate}
 use Rattle.plan_commands.specs.Arguments.AskFor.{place_usually, place_within, check_certificate, best_usually, best_within, check_best, priced_usually, priced_within, check_prices, stops_usually, stops_within, generate_load}
 

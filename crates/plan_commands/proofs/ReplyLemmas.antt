@@ -19,34 +19,35 @@ use Rattle.certificate.specs.declared.parts.Certificate.{Certificate}
 use Rattle.certificate.proofs.ReadLemmas.{spelled_has_no_fault}
 use Rattle.tree_certificate.specs.Listed.{ListedTrees}
 use Rattle.tree_certificate.proofs.ReadLemmas.{spelled_has_no_fault as trees_have_no_fault}
-use Rattle.plan_commands.specs.declared.ending.Outcome.{Outcome}
-use Rattle.plan_commands.specs.declared.ending.Outcome.TheVariants.{Usage, BadInput}
+use Rattle.plan_answers.specs.declared.reply.Outcome.{Outcome}
+use Rattle.plan_answers.specs.declared.reply.Outcome.TheVariants.{Usage, BadInput}
 use Rattle.plan_commands.specs.Arguments.{Job, IsCommand, AreInvalid}
 use Rattle.plan_commands.specs.Arguments.Job.{generate}
-use Rattle.plan_commands.specs.ReplyText.{usage_text}
-use Rattle.plan_commands.specs.NearReply.{IsCertificateIn, IsCertificateRefusal, IsPlacing, IsJudgement}
-use Rattle.plan_commands.specs.NearReply.IsCertificateRefusal.{too_long as certificate_too_long, no_certificate}
-use Rattle.plan_commands.specs.NearReply.IsPlacing.{plan, nothing_fits, over_budget}
-use Rattle.plan_commands.specs.NearReply.IsJudgement.{good, rejected}
-use Rattle.plan_commands.specs.TreeReply.{AreTreesIn, IsTreeRefusal, IsTreePlacing, IsTreeJudgement}
-use Rattle.plan_commands.specs.TreeReply.IsTreeRefusal.{too_long as trees_too_long, no_trees}
-use Rattle.plan_commands.specs.TreeReply.IsTreePlacing.{plan as tree_plan, nothing_fits as tree_nothing_fits, near_plan, nothing_near, undecided}
-use Rattle.plan_commands.specs.TreeReply.IsTreeJudgement.{good as good_trees, rejected as rejected_trees}
+use Rattle.plan_answers.specs.ReplyText.{usage_text}
+use Rattle.plan_answers.specs.NearReply.{IsCertificateIn, IsCertificateRefusal, IsPlacing, IsJudgement}
+use Rattle.plan_answers.specs.NearReply.IsCertificateRefusal.{too_long as certificate_too_long, no_certificate}
+use Rattle.plan_answers.specs.NearReply.IsPlacing.{plan, nothing_fits, over_budget}
+use Rattle.plan_answers.specs.NearReply.IsJudgement.{good, rejected}
+use Rattle.plan_answers.specs.TreeReply.{AreTreesIn, IsTreeRefusal, IsTreePlacing, IsTreeJudgement}
+use Rattle.plan_answers.specs.TreeReply.IsTreeRefusal.{too_long as trees_too_long, no_trees}
+use Rattle.plan_answers.specs.TreeReply.IsTreePlacing.{plan as tree_plan, nothing_fits as tree_nothing_fits, near_plan, nothing_near, undecided}
+use Rattle.plan_answers.specs.TreeReply.IsTreeJudgement.{good as good_trees, rejected as rejected_trees}
 use Rattle.priced_certificate.specs.declared.parts.PricedCertificate.{PricedCertificate}
 use Rattle.priced_certificate.proofs.PricedParts.{spelled_has_no_fault as prices_have_no_fault}
-use Rattle.plan_commands.specs.PricedReply.{IsPricedIn, IsPricedRefusal, IsPricedPlacing, IsPricedJudgement}
-use Rattle.plan_commands.specs.PricedReply.IsPricedRefusal.{too_long as prices_too_long, no_certificate as no_prices}
-use Rattle.plan_commands.specs.PricedReply.IsPricedPlacing.{plan as priced_plan, nothing_fits as priced_nothing_fits, over_budget as priced_over_budget}
-use Rattle.plan_commands.specs.PricedReply.IsPricedJudgement.{good as good_prices, rejected as rejected_prices}
-use Rattle.plan_commands.specs.StopReply.{IsStopsIn, IsStopRefusal, IsStopPlacing}
-use Rattle.plan_commands.specs.StopReply.IsStopRefusal.{too_long as stops_too_long, no_load}
-use Rattle.plan_commands.specs.StopReply.IsStopPlacing.{plan as stop_plan, nothing_fits as stop_nothing_fits, over_budget as stop_over_budget}
-use Rattle.plan_commands.specs.AnyReply.{AnyListed, IsAnyIn, IsAnyRefusal, IsAnyJudgement}
-use Rattle.plan_commands.specs.AnyReply.AnyListed.{of_cuts, of_trees}
-use Rattle.plan_commands.specs.AnyReply.IsAnyRefusal.{too_long as any_too_long, no_cuts, no_trees as none_of_trees}
-use Rattle.plan_commands.specs.Reply.{IsTaskIn, IsRefusal, IsCertificateFile, IsAnyFile, IsPricedFile, IsSummary, IsAnswer, IsAnswerAlone, IsAnswerOver, IsBadInput, NeedsFiles, IsBadInputOver, IsReply, IsReplyOver, HasInput, HaveInput, HaveBadInput, IsAnswered}
+use Rattle.plan_answers.specs.PricedReply.{IsPricedIn, IsPricedRefusal, IsPricedPlacing, IsPricedJudgement}
+use Rattle.plan_answers.specs.PricedReply.IsPricedRefusal.{too_long as prices_too_long, no_certificate as no_prices}
+use Rattle.plan_answers.specs.PricedReply.IsPricedPlacing.{plan as priced_plan, nothing_fits as priced_nothing_fits, over_budget as priced_over_budget}
+use Rattle.plan_answers.specs.PricedReply.IsPricedJudgement.{good as good_prices, rejected as rejected_prices}
+use Rattle.plan_answers.specs.StopReply.{IsStopsIn, IsStopRefusal, IsStopPlacing}
+use Rattle.plan_answers.specs.StopReply.IsStopRefusal.{too_long as stops_too_long, no_load}
+use Rattle.plan_answers.specs.StopReply.IsStopPlacing.{plan as stop_plan, nothing_fits as stop_nothing_fits, over_budget as stop_over_budget}
+use Rattle.plan_answers.specs.AnyReply.{AnyListed, IsAnyIn, IsAnyRefusal, IsAnyJudgement}
+use Rattle.plan_answers.specs.AnyReply.AnyListed.{of_cuts, of_trees}
+use Rattle.plan_answers.specs.AnyReply.IsAnyRefusal.{too_long as any_too_long, no_cuts, no_trees as none_of_trees}
+use Rattle.plan_commands.specs.Reply.{IsTaskIn, IsRefusal, IsCertificateFile, IsAnyFile, IsPricedFile, IsAnswer, IsAnswerAlone, IsAnswerOver, IsBadInput, NeedsFiles, IsBadInputOver, IsReply, IsReplyOver, HasInput, HaveInput, HaveBadInput, IsAnswered}
+use Rattle.plan_answers.specs.SummaryReply.{IsSummary}
 use Rattle.plan_commands.specs.Reply.IsRefusal.{too_long as task_too_long, no_task}
-use Rattle.plan_commands.specs.Reply.IsSummary.{plan_summed, none_summed, budget_summed}
+use Rattle.plan_answers.specs.SummaryReply.IsSummary.{plan_summed, none_summed, budget_summed}
 use Rattle.plan_commands.specs.Reply.IsAnswer.{placed, judged, placed_by_trees, any_judged, placed_with_prices, prices_judged, placed_over_sectors, summed}
 use Rattle.plan_commands.specs.Reply.IsBadInput.{bad_task, bad_checked_task, bad_certificate, bad_best_task, bad_task_of_any, bad_any, bad_priced_task, bad_task_of_prices, bad_prices, bad_stops}
 use Rattle.plan_commands.specs.Reply.IsReply.{answered, refused, usage}

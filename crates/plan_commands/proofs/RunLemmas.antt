@@ -4,12 +4,12 @@ use Rattle.std.specs.Result.{IfOk, IfErr, IsErrAnd}
 use Rattle.base_words.specs.Faults.{Rose}
 use Rattle.load_io.specs.Shelf.{Files}
 use Rattle.load_io.specs.Sink.{Appends, AppendsPart}
-use Rattle.plan_commands.specs.declared.ending.Outcome.{Outcome}
-use Rattle.plan_commands.specs.declared.ending.Outcome.TheVariants.{Usage}
+use Rattle.plan_answers.specs.declared.reply.Outcome.{Outcome}
+use Rattle.plan_answers.specs.declared.reply.Outcome.TheVariants.{Usage}
 use Rattle.plan_commands.specs.declared.ending.Stop.{Stop}
 use Rattle.plan_commands.specs.declared.ending.Stop.TheVariants.{ReadFault, WriteFault, NoMemory}
 use Rattle.plan_commands.specs.Arguments.{AreInvalid}
-use Rattle.plan_commands.specs.ReplyText.{usage_text}
+use Rattle.plan_answers.specs.ReplyText.{usage_text}
 use Rattle.plan_commands.specs.Reply.{IsReply, IsReplyOver}
 use Rattle.plan_commands.specs.Run.{Outside, IsRun}
 use Rattle.plan_commands.specs.Run.Ends.{replied, read_fault, write_fault, no_memory}

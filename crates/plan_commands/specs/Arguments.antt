@@ -2,6 +2,7 @@
 use Rattle.std.specs.Prelude.{◌≡◌, ℕ, ◌<◌, ◌≤◌, ◌^◌, List, [], ◌∷◌, All, take, map, codes, String, string_bytes}
 use Rattle.std.specs.declared.alloc.Global.{Global}
 use Rattle.mass_units.specs.Spelling.{number_text}
+use Rattle.plan_answers.specs.Limits.{usual_budget, greatest_budget, greatest_priced_budget}
 
 -- the bytes of each argument
 abbrev pub arguments_of : List (String Global) → List (List ℕ)
@@ -10,23 +11,12 @@ arguments_of arguments = map string_bytes arguments
 abbrev pub BeginsWithMinus : List ℕ → Type 0
 BeginsWithMinus argument = take 1 argument ≡ codes "-"
 
--- the budget of a search if the arguments name none, and the greatest one
-abbrev pub usual_budget : ℕ
-usual_budget = 20000
-
-abbrev pub greatest_budget : ℕ
-greatest_budget = 50000
-
 -- how many choices a search by trees looks at if the arguments do not say it, and the greatest number
 abbrev pub usual_looks : ℕ
 usual_looks = 20000
 
 abbrev pub greatest_looks : ℕ
 greatest_looks = 1000000
-
--- the greatest budget of a search with prices, and its budget if the arguments name none
-abbrev pub greatest_priced_budget : ℕ
-greatest_priced_budget = 500
 
 -- the budget of a search over several sectors if the arguments name none, and the greatest one
 abbrev pub usual_stop_budget : ℕ

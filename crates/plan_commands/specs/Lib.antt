@@ -1,15 +1,5 @@
 pub mod Arguments
 pub mod Commands
 pub mod Halts
-pub mod Outcomes
-pub mod ReplyText
-pub mod Claims
-pub mod Kinds
-pub mod Names
-pub mod NearReply
-pub mod TreeReply
-pub mod PricedReply
-pub mod StopReply
-pub mod AnyReply
 pub mod Reply
 pub mod Run

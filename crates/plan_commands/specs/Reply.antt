@@ -1,29 +1,26 @@
 -- The reply to the arguments, where these are the files.
-use Rattle.std.specs.Prelude.{◌≡◌, ℕ, ◌<◌, ◌≤◌, List, length, Option, Some, None, IsSomeAnd, MatchOption}
+use Rattle.std.specs.Prelude.{◌≡◌, ℕ, ◌<◌, ◌≤◌, List, length, Option, None, IsSomeAnd, MatchOption}
 use Rattle.hold_limits.specs.Problem.{Problem}
-use Rattle.hold_limits.specs.Placement.{IsBest}
 use Rattle.hold_limits.specs.Faults.{hold_fault, task_fault}
 use Rattle.problem_text.specs.TaskText.{Spells}
 use Rattle.problem_text.specs.Refusals.{IsRefused}
 use Rattle.problem_text.specs.declared.fault.TextFault.{TextFault}
-use Rattle.certificate.specs.Evidence.{claimed}
 use Rattle.certificate.specs.declared.parts.Certificate.{Certificate}
 use Rattle.priced_certificate.specs.declared.parts.PricedCertificate.{PricedCertificate}
-use Rattle.cert_checker.specs.Claims.{HasNoPlacement}
-use Rattle.placer.specs.Near.{AreMoreThan, IsNear}
 use Rattle.stop_tasks.specs.Stops.{Stops}
-use Rattle.generated_load.specs.Load.{generated_problem}
 use Rattle.load_io.specs.Shelf.{Files}
-use Rattle.plan_commands.specs.declared.ending.Outcome.{Outcome}
-use Rattle.plan_commands.specs.declared.ending.Outcome.TheVariants.{Done, Usage, BadInput, NothingFits, OverBudget, Undecided, Rejected}
-use Rattle.plan_commands.specs.Arguments.{Job, IsCommand, AreInvalid, usual_budget}
+use Rattle.plan_answers.specs.declared.reply.Outcome.{Outcome}
+use Rattle.plan_answers.specs.declared.reply.Outcome.TheVariants.{Done, Usage, BadInput, NothingFits, OverBudget, Undecided, Rejected}
+use Rattle.plan_commands.specs.Arguments.{Job, IsCommand, AreInvalid}
 use Rattle.plan_commands.specs.Arguments.Job.{place, check, best, check_any, priced, check_priced, stops, generate}
-use Rattle.plan_commands.specs.ReplyText.{longest_task, IsFaultLine, long_text, usage_text, plan_summary, none_summary, budget_summary}
-use Rattle.plan_commands.specs.NearReply.{IsCertificateIn, IsCertificateRefusal, IsEvidence, IsPlacing, IsJudgement}
-use Rattle.plan_commands.specs.TreeReply.{IsTreePlacing}
-use Rattle.plan_commands.specs.PricedReply.{IsPricedIn, IsPricedRefusal, IsPricedPlacing, IsPricedJudgement}
-use Rattle.plan_commands.specs.StopReply.{IsStopsIn, IsStopRefusal, IsStopPlacing}
-use Rattle.plan_commands.specs.AnyReply.{AnyListed, IsAnyIn, IsAnyRefusal, IsAnyJudgement}
+use Rattle.plan_answers.specs.ReplyText.{IsFaultLine, long_text, usage_text}
+use Rattle.plan_answers.specs.Limits.{longest_task}
+use Rattle.plan_answers.specs.NearReply.{IsCertificateIn, IsCertificateRefusal, IsPlacing, IsJudgement}
+use Rattle.plan_answers.specs.TreeReply.{IsTreePlacing}
+use Rattle.plan_answers.specs.PricedReply.{IsPricedIn, IsPricedRefusal, IsPricedPlacing, IsPricedJudgement}
+use Rattle.plan_answers.specs.StopReply.{IsStopsIn, IsStopRefusal, IsStopPlacing}
+use Rattle.plan_answers.specs.AnyReply.{AnyListed, IsAnyIn, IsAnyRefusal, IsAnyJudgement}
+use Rattle.plan_answers.specs.SummaryReply.{IsSummary}
 
 -- Files -----------------------------------------------------------------------------------------
 
@@ -77,14 +74,6 @@ abbrev pub IsRefusedStopsFile : Files → List ℕ → List ℕ → Type 0
 IsRefusedStopsFile files name line = Holds files name (λ bytes. IsStopRefusal bytes line)
 
 -- Answers ---------------------------------------------------------------------------------------
-
--- the summary of the placement of a generated load
-pub data IsSummary (number : ℕ) : Outcome → List ℕ → Type 0 where
-  plan_summed : (path : List ℕ) (c : Certificate) → IsBest (generated_problem number) path → claimed c.claim ≡ Some path
-      → IsEvidence (generated_problem number) usual_budget c → IsSummary number Done (plan_summary number path c)
-  none_summed : (c : Certificate) → HasNoPlacement (generated_problem number) → claimed c.claim ≡ None
-      → IsEvidence (generated_problem number) usual_budget c → IsSummary number Done (none_summary number c)
-  budget_summed : AreMoreThan (IsNear (generated_problem number)) usual_budget → IsSummary number OverBudget (budget_summary number)
 
 -- the answer to a job whose files are there and right
 pub data IsAnswer (files : Files) : Job → Outcome → List ℕ → Type 0 where

@@ -3,12 +3,12 @@ use Rattle.std.specs.Prelude.{◌≡◌, ◌≢◌, ℕ, List, Option, Some, Res
 use Rattle.base_words.specs.Faults.{Rose}
 use Rattle.load_io.specs.Shelf.{Files}
 use Rattle.load_io.specs.Sink.{Appends, AppendsPart}
-use Rattle.plan_commands.specs.declared.ending.Outcome.{Outcome}
-use Rattle.plan_commands.specs.declared.ending.Outcome.TheVariants.{Done, Usage, BadInput, NothingFits, OverBudget, Undecided, Rejected}
+use Rattle.plan_answers.specs.declared.reply.Outcome.{Outcome}
+use Rattle.plan_answers.specs.declared.reply.Outcome.TheVariants.{Done, Usage, BadInput, NothingFits, OverBudget, Undecided, Rejected}
 use Rattle.plan_commands.specs.declared.ending.Stop.{Stop}
 use Rattle.plan_commands.specs.declared.ending.Stop.TheVariants.{ReadFault, WriteFault, NoMemory}
 use Rattle.plan_commands.specs.Arguments.{AreInvalid}
-use Rattle.plan_commands.specs.ReplyText.{usage_text}
+use Rattle.plan_answers.specs.ReplyText.{usage_text}
 use Rattle.plan_commands.specs.Reply.{IsReplyOver, IsAnswered, HaveInput, HaveBadInput}
 
 -- the exit status

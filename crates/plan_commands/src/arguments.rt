@@ -6,20 +6,12 @@ ghost use Rattle.plan_commands.specs.Arguments.{arguments_of, BeginsWithMinus, J
 ghost use Rattle.plan_commands.specs.Commands.{job_of};
 
 use mass_units::{read_long_number, read_number};
-
-/// The budget of a search if the arguments name none.
-pub const USUAL_BUDGET: u32 = 20_000;
-
-/// The greatest budget of a search.
-pub const GREATEST_BUDGET: u32 = 50_000;
+use plan_answers::{GREATEST_BUDGET, GREATEST_PRICED_BUDGET, USUAL_BUDGET};
 
 /// How many choices a search by trees looks at if the arguments do not say it.
 const USUAL_LOOKS: u32 = 20_000;
 
 const GREATEST_LOOKS: u32 = 1_000_000;
-
-/// The greatest budget of a search with prices, and its budget if the arguments name none.
-const GREATEST_PRICED_BUDGET: u32 = 500;
 
 /// The budget of a search over several sectors if the arguments name none.
 const USUAL_STOP_BUDGET: u32 = 2_000;

@@ -3,40 +3,31 @@
 ghost use Rattle.std.specs.Prelude.{◌≡◌, ◌≢◌, ◌≤◌, Err, IfOk, IfErr, IfSome, length};
 ghost use Rattle.base_words.specs.Faults.{Rose};
 ghost use Rattle.load_io.specs.Shelf.{IsWhole, HasMoreThan};
-ghost use Rattle.plan_commands.specs.ReplyText.{longest_task, longest_certificate, longest_priced, long_text};
+ghost use Rattle.plan_answers.specs.ReplyText.{long_text};
+ghost use Rattle.plan_answers.specs.Limits.{longest_task, longest_certificate, longest_priced};
 ghost use Rattle.tree_certificate.specs.Listed.{listed_trees};
-ghost use Rattle.plan_commands.specs.NearReply.{IsCertificateIn, IsCertificateRefusal};
-ghost use Rattle.plan_commands.specs.TreeReply.{AreTreesIn, IsTreeRefusal};
-ghost use Rattle.plan_commands.specs.PricedReply.{IsPricedIn, IsPricedRefusal};
-ghost use Rattle.plan_commands.specs.StopReply.{IsStopsIn, IsStopRefusal};
-ghost use Rattle.plan_commands.specs.AnyReply.{any_listed, IsAnyIn, IsAnyRefusal};
+ghost use Rattle.plan_answers.specs.NearReply.{IsCertificateIn, IsCertificateRefusal};
+ghost use Rattle.plan_answers.specs.TreeReply.{AreTreesIn, IsTreeRefusal};
+ghost use Rattle.plan_answers.specs.PricedReply.{IsPricedIn, IsPricedRefusal};
+ghost use Rattle.plan_answers.specs.StopReply.{IsStopsIn, IsStopRefusal};
+ghost use Rattle.plan_answers.specs.AnyReply.{any_listed, IsAnyIn, IsAnyRefusal};
 ghost use Rattle.plan_commands.specs.Reply.{IsTaskIn, IsRefusal, IsTaskFile, IsRefusedTask, IsCertificateFile, IsRefusedCertificate, IsAnyFile, IsRefusedAny, IsPricedFile, IsRefusedPriced, IsStopsFile, IsRefusedStopsFile};
 ghost use Rattle.plan_commands.specs.Halts.{IfBadInput};
 
-use crate::any_certificate::{AnyCertificate, begins_with_cuts};
 use crate::ending::Halt;
-use crate::reply_text::{
-    line_of_certificate_fault, line_of_fault, line_of_stop_fault, two_word_line,
-};
 use certificate::{Certificate, read_certificate};
 use hold_limits::Task;
 use load_io::{Shelf, ShelfFault};
+use plan_answers::{
+    AnyCertificate, LONGEST_CERTIFICATE, LONGEST_PRICED, LONGEST_TASK, begins_with_cuts,
+    line_of_certificate_fault, line_of_fault, line_of_stop_fault, two_word_line,
+};
 use priced_certificate::{PricedCertificate, read_priced};
 use problem_text::read_task;
 use std::alloc::Global;
 use stop_tasks::StopTask;
 use stop_text::read_stops;
 use tree_certificate::{TreeCertificate, read_trees};
-
-/// The greatest length of a file with a task or with a load over several sectors, in bytes.
-pub const LONGEST_TASK: usize = 1_048_576;
-
-/// The greatest length of a file with a certificate of cuts or of trees, in bytes.
-pub const LONGEST_CERTIFICATE: usize = 805_306_368;
-
-/// The greatest length of a file with a certificate with prices, in bytes: 32,000 cuts of 4,300 bytes each, and the lines
-/// beside them.
-pub const LONGEST_PRICED: usize = 138_000_000;
 
 /// The refusal of a file that is too long.
 fn too_long(alloc: Global) -> Halt

@@ -4,16 +4,16 @@ ghost use Rattle.std.specs.Prelude.{◌≡◌, ◌≢◌, ℕ, List, None, Err, 
 ghost use Rattle.base_words.specs.Faults.{Rose};
 ghost use Rattle.plan_commands.specs.Arguments.{arguments_of};
 ghost use Rattle.plan_commands.specs.Commands.{AreCommand};
-ghost use Rattle.plan_commands.specs.ReplyText.{usage_text};
+ghost use Rattle.plan_answers.specs.ReplyText.{usage_text};
 ghost use Rattle.plan_commands.specs.Reply.{IsReplyOver};
 ghost use Rattle.plan_commands.specs.Run.{outside, exit_status, IsRun, ExitsWith};
 
 use crate::arguments::{Command, command_of};
-use crate::ending::{Halt, Outcome, Reply, Stop};
+use crate::ending::{Halt, Stop};
 use crate::jobs::answer_to;
-use crate::reply_text::word_line;
 use load_io::{Shelf, Sink, write_all};
 use placer::Placing;
+use plan_answers::{Outcome, Reply, word_line};
 use std::alloc::Global;
 
 /// The reply to a command, or to invalid arguments where there is none. Its files are read at most once each, in the order of

@@ -1,5 +1,5 @@
-use Rattle.plan_commands.specs.ReplyText.{longest_certificate}
-use Rattle.plan_commands.specs.AnyReply.{IsAnyRefusal}
+use Rattle.plan_answers.specs.Limits.{longest_certificate}
+use Rattle.plan_answers.specs.AnyReply.{IsAnyRefusal}
 use Rattle.plan_commands.proofs.FileLemmas.{IfErr-from_residual, long-halt, long-any-refused}
 use Rattle.plan_commands.proofs.files.any_from.Goals as goal
 

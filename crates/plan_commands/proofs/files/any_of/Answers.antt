@@ -1,7 +1,6 @@
 use Rattle.std.proofs.Common.{sym, ◌∙◌}
 use Rattle.std.proofs.lemmas.Bool.{false≢true}
-use Rattle.plan_commands.proofs.AnyLemmas.{cuts-halt, trees-halt}
-use Rattle.plan_commands.proofs.FileLemmas.{IfErr-from_residual}
+use Rattle.plan_commands.proofs.FileLemmas.{IfErr-from_residual, cuts-halt, trees-halt}
 use Rattle.plan_commands.proofs.files.any_of.Goals as goal
 
 pub returns-in_err-cuts-clause-refused : goal.returns-in_err-cuts-clause-refused

@@ -1,5 +1,5 @@
-use Rattle.plan_commands.specs.ReplyText.{longest_certificate}
-use Rattle.plan_commands.specs.NearReply.{IsCertificateRefusal}
+use Rattle.plan_answers.specs.Limits.{longest_certificate}
+use Rattle.plan_answers.specs.NearReply.{IsCertificateRefusal}
 use Rattle.plan_commands.proofs.FileLemmas.{IfErr-from_residual, long-halt, long-certificate-refused}
 use Rattle.plan_commands.proofs.files.certificate_from.Goals as goal
 

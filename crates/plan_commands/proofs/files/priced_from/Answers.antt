@@ -1,5 +1,5 @@
-use Rattle.plan_commands.specs.ReplyText.{longest_priced}
-use Rattle.plan_commands.specs.PricedReply.{IsPricedRefusal}
+use Rattle.plan_answers.specs.Limits.{longest_priced}
+use Rattle.plan_answers.specs.PricedReply.{IsPricedRefusal}
 use Rattle.plan_commands.proofs.FileLemmas.{IfErr-from_residual, long-halt, long-prices-refused}
 use Rattle.plan_commands.proofs.files.priced_from.Goals as goal
 

@@ -1,4 +1,4 @@
-use Rattle.plan_commands.specs.PricedReply.IsPricedRefusal.{no_certificate}
+use Rattle.plan_answers.specs.PricedReply.IsPricedRefusal.{no_certificate}
 use Rattle.plan_commands.proofs.files.priced_of.Goals as goal
 
 pub returns-in_ok-line_of_certificate_fault-in-Err-clause-refused : goal.returns-in_ok-line_of_certificate_fault-in-Err-clause-refused

@@ -1,5 +1,5 @@
-use Rattle.plan_commands.specs.ReplyText.{longest_task}
-use Rattle.plan_commands.specs.StopReply.{IsStopRefusal}
+use Rattle.plan_answers.specs.Limits.{longest_task}
+use Rattle.plan_answers.specs.StopReply.{IsStopRefusal}
 use Rattle.plan_commands.proofs.FileLemmas.{IfErr-from_residual, long-halt, long-stops-refused}
 use Rattle.plan_commands.proofs.files.stops_from.Goals as goal
 

@@ -1,5 +1,5 @@
-use Rattle.plan_commands.specs.StopReply.IsStopRefusal.{no_load}
-use Rattle.plan_commands.proofs.StopJobLemmas.{read-stops}
+use Rattle.plan_answers.specs.StopReply.IsStopRefusal.{no_load}
+use Rattle.plan_answers.proofs.StopJobLemmas.{read-stops}
 use Rattle.plan_commands.proofs.files.stops_of.Goals as goal
 
 pub returns-in-Ok-clause-read : goal.returns-in-Ok-clause-read

@@ -1,4 +1,4 @@
-use Rattle.plan_commands.specs.ReplyText.{longest_task}
+use Rattle.plan_answers.specs.Limits.{longest_task}
 use Rattle.plan_commands.specs.Reply.{IsRefusal}
 use Rattle.plan_commands.proofs.FileLemmas.{IfErr-from_residual, long-halt, long-refused}
 use Rattle.plan_commands.proofs.files.task_from.Goals as goal

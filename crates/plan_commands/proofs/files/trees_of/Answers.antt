@@ -1,4 +1,4 @@
-use Rattle.plan_commands.specs.TreeReply.IsTreeRefusal.{no_trees}
+use Rattle.plan_answers.specs.TreeReply.IsTreeRefusal.{no_trees}
 use Rattle.plan_commands.proofs.files.trees_of.Goals as goal
 
 pub returns-in_ok-line_of_certificate_fault-in-Err-clause-refused : goal.returns-in_ok-line_of_certificate_fault-in-Err-clause-refused

@@ -1,5 +1,5 @@
 use Rattle.plan_commands.proofs.FileLemmas.{IfErr-from_residual}
-use Rattle.plan_commands.specs.AnyReply.{any_listed}
+use Rattle.plan_answers.specs.AnyReply.{any_listed}
 use Rattle.plan_commands.proofs.AnswerLemmas.{bad-task, bad-checked_task, bad-certificate, bad-best_task, bad-task_of_any, bad-any, bad-priced_task, bad-task_of_prices, bad-prices, bad-stops, placed-answer, judged-answer, placed-by_trees-answer, any-judged-answer, placed-with_prices-answer, prices-judged-answer, placed-over_sectors-answer, summed-answer}
 use Rattle.plan_commands.proofs.ReplyLemmas.{placing-answered, judgement-answered, tree-placing-answered, any-judgement-answered, priced-placing-answered, priced-judgement-answered, stop-placing-answered, summary-answered}
 use Rattle.plan_commands.proofs.jobs.answer_to.Goals as goal

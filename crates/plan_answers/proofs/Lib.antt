@@ -1,0 +1,13 @@
+pub mod AnyLemmas
+pub mod AnswerLines
+pub mod CutCounts
+pub mod ShortText
+pub mod ReadBack
+pub mod SpelledLemmas
+pub mod PricedCounts
+pub mod PricedShort
+pub mod PricedBack
+pub mod JobLemmas
+pub mod PricedJobLemmas
+pub mod StopJobLemmas
+pub mod TreeJobLemmas

@@ -1,0 +1,12 @@
+pub mod Limits
+pub mod Outcomes
+pub mod ReplyText
+pub mod Claims
+pub mod Kinds
+pub mod Names
+pub mod NearReply
+pub mod TreeReply
+pub mod PricedReply
+pub mod StopReply
+pub mod AnyReply
+pub mod SummaryReply

@@ -1,9 +1,0 @@
-use Rattle.std.proofs.Common.{◌↔◌, length}
-use Rattle.plan_commands.specs.Kinds.{BeginsWithCuts}
-use Rattle.plan_commands.proofs.any_certificate.begins_with_cuts.Given as goal
-
-abbrev pub invariant-loop-line : goal.invariant-loop-line
-invariant-loop-line l = BeginsWithCuts l.text ↔ BeginsWithCuts l.lines.rest.now
-
-abbrev pub decreases-loop-line : goal.decreases-loop-line
-decreases-loop-line l = length l.lines.rest.now
