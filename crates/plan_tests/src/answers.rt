@@ -2,11 +2,12 @@
 use crate::pass;
 use crate::small_tasks::{all_lists, task_with};
 use case_rows::{Subject, field};
+use certificate::Certificate;
 use hold_limits::{
     Path, Task, hold_index_of, is_in_window, is_sound, lateral_difference_of, outcome,
 };
 use placer::{Answer, Direct, Placing, place};
-use std::alloc::Global;
+use std::alloc::{AllocError, Global};
 use std::test::Fail;
 
 /// The distance of a path from the ideal band, where the task admits it.
@@ -55,26 +56,31 @@ fn best_path(answer: &Answer) -> Option<&[u8]> {
     }
 }
 
+/// Whether an answer has the best path that is spelled so.
+fn compared(alloc: Global, answer: &Answer, best: &str) -> Result<&'static str, AllocError> {
+    if matches!(answer, Answer::Budget(_)) {
+        return Ok("over the budget");
+    }
+    let placed = format!(in alloc; "{:?}", best_path(answer))?;
+    Ok(if placed.as_str() == best {
+        "the same"
+    } else {
+        "another"
+    })
+}
+
+fn compared_with_trial(alloc: Global, task: &Task) -> Result<&'static str, Fail> {
+    let best = best_by_trial(alloc, task)?;
+    Ok(compared(alloc, &place(alloc, task, 50_000)?, best.as_str())?)
+}
+
 /// Whether the best path is what a trial finds.
 struct Trial;
 
 impl Subject for Trial {
     fn said(&self, alloc: Global, case: &str) -> Result<String, Fail> {
-        let task = task_with(alloc, case)?;
-        let best = best_by_trial(alloc, &task)?;
-        let answer = place(alloc, &task, 50_000)?;
-        if matches!(answer, Answer::Budget(_)) {
-            return Ok(String::from_str(alloc, "over the budget")?);
-        }
-        let placed = format!(in alloc; "{:?}", best_path(&answer))?;
-        Ok(String::from_str(
-            alloc,
-            if placed == best {
-                "the same"
-            } else {
-                "another"
-            },
-        )?)
+        let told = compared_with_trial(alloc, &task_with(alloc, case)?)?;
+        Ok(String::from_str(alloc, told)?)
     }
 }
 
@@ -112,17 +118,30 @@ Certificate { claim: NoneFits, cuts: Cuts { list: [] }, expanded: 3 }|3|-100.000
 Certificate { claim: Best([0, 3]), cuts: Cuts { list: [[1], [2]] }, expanded: 2 }|3|item AKE10002XX 800=>item AKE10002XX 1000
 Certificate { claim: NoneFits, cuts: Cuts { list: [] }, expanded: 2 }|2|item AKE10002XX 800=>item AKE10002XX 1000|-100.00000 100.00000=>0.00001 0.00001";
 
+/// The certificate of an answer, if it has one.
+fn certificate_of(answer: &Answer) -> Option<&Certificate> {
+    match answer {
+        Answer::Best(proven) => Some(proven.certificate()),
+        Answer::NoneFits(none) => Some(none.certificate()),
+        Answer::Budget(_) => None,
+    }
+}
+
+fn certificate_text(alloc: Global, answer: &Answer) -> Result<String, AllocError> {
+    match certificate_of(answer) {
+        Some(certificate) => format!(in alloc; "{certificate:?}"),
+        None => String::from_str(alloc, "over its budget"),
+    }
+}
+
 /// The certificate of the answer within a budget.
 struct Certificates;
 
 impl Subject for Certificates {
     fn said(&self, alloc: Global, case: &str) -> Result<String, Fail> {
         let budget = field(case, 0)?.parse::<u32>()?;
-        match Direct.place(alloc, &task_with(alloc, case)?, budget)? {
-            Answer::Best(proven) => Ok(format!(in alloc; "{:?}", proven.certificate())?),
-            Answer::NoneFits(none) => Ok(format!(in alloc; "{:?}", none.certificate())?),
-            Answer::Budget(_) => Ok(String::from_str(alloc, "over its budget")?),
-        }
+        let answer = Direct.place(alloc, &task_with(alloc, case)?, budget)?;
+        Ok(certificate_text(alloc, &answer)?)
     }
 }
 
@@ -138,16 +157,20 @@ Some(2)|2|-100.00000 100.00000=>0.00000 0.00000
 Some(2)|2|item AKE10002XX 800=>item AKE10002XX 1000
 Some(1)|1|item AKE10002XX 800=>item AKE10002XX 1000|-100.00000 100.00000=>0.00001 0.00001";
 
+fn spent_of(answer: &Answer) -> Option<u32> {
+    match answer {
+        Answer::Budget(spent) => Some(*spent),
+        Answer::Best(_) | Answer::NoneFits(_) => None,
+    }
+}
+
 /// The budget that is spent, if it is.
 struct Budgets;
 
 impl Subject for Budgets {
     fn said(&self, alloc: Global, case: &str) -> Result<String, Fail> {
         let budget = field(case, 0)?.parse::<u32>()?;
-        let spent = match place(alloc, &task_with(alloc, case)?, budget)? {
-            Answer::Budget(spent) => Some(spent),
-            Answer::Best(_) | Answer::NoneFits(_) => None,
-        };
+        let spent = spent_of(&place(alloc, &task_with(alloc, case)?, budget)?);
         Ok(format!(in alloc; "{spent:?}")?)
     }
 }

@@ -1,6 +1,6 @@
 // Tasks of a few containers in a hold of two compartments, and what placements of them are worth.
 use crate::pass;
-use crate::small_tasks::{SIDED, numbers_of, task_from, task_with};
+use crate::small_tasks::{SIDED, numbers_of, path_from, task_from, task_with};
 use case_rows::{Subject, field};
 use hold_limits::{
     Hold, Item, Lateral, Path, Task, UldId, distance_from_ideal, hold_index_of, is_in_window,
@@ -32,14 +32,27 @@ fn told_by_number(alloc: Global, hold: &Hold) -> Result<String, Fail> {
     )?)
 }
 
+/// What the hold of the worked task tells, with the edits of a case.
+struct Numbered;
+
+impl Subject for Numbered {
+    fn said(&self, alloc: Global, case: &str) -> Result<String, Fail> {
+        told_by_number(alloc, task_with(alloc, case)?.hold())
+    }
+}
+
 #[test]
-fn a_hold_knows_its_positions_by_number(rt: HostRuntime) -> Result<(), Fail> {
-    let task = task_with(rt.alloc(), "")?;
-    assert_eq!(rt;
-        told_by_number(rt.alloc(), task.hold())?.as_str(),
-        "(5, 600) [\"42\", \"\"] (true, false) false"
-    );
-    Ok(())
+fn a_hold_knows_its_positions_by_number(rt: HostRuntime) {
+    let row = "(5, 600) [\"42\", \"\"] (true, false) false|";
+    pass(&rt, rt.alloc(), &Numbered, row);
+}
+
+fn worth_of(alloc: Global, task: &Task, path: &Path) -> Result<String, AllocError> {
+    if !is_sound(task, path.as_slice()) {
+        return String::from_str(alloc, "not sound");
+    }
+    let lateral = lateral_of(task, path);
+    format!(in alloc; "{:?} {lateral}", outcome(task, path))
 }
 
 /// The take-off index and the distance of a sound path, and its mass on the right less that on the left. A case has the path,
@@ -48,13 +61,8 @@ struct Paths;
 
 impl Subject for Paths {
     fn said(&self, alloc: Global, case: &str) -> Result<String, Fail> {
-        let task = task_from(alloc, SIDED, case)?;
-        let path = Path::try_from(numbers_of(alloc, field(case, 0)?)?.as_slice())?;
-        if !is_sound(&task, path.as_slice()) {
-            return Ok(String::from_str(alloc, "not sound")?);
-        }
-        let lateral = lateral_of(&task, &path);
-        Ok(format!(in alloc; "{:?} {lateral}", outcome(&task, &path))?)
+        let path = path_from(alloc, field(case, 0)?)?;
+        Ok(worth_of(alloc, &task_from(alloc, SIDED, case)?, &path)?)
     }
 }
 
@@ -88,19 +96,35 @@ fn told_of(alloc: Global, task: &Task, prefix: &[u8], asked: Asked) -> Result<St
     })
 }
 
-/// The same of placements with a comma between them, a digit for each position. A case has them and edits of the task with
-/// sides.
+/// The same of placements with a comma between them, a digit for each position.
+fn told_of_all(alloc: Global, task: &Task, placements: &str, asked: Asked) -> Result<String, Fail> {
+    let mut told = String::new(alloc);
+    for digits in placements.split(',') {
+        append_told(alloc, &mut told, task, digits, asked)?;
+    }
+    Ok(told)
+}
+
+fn append_told(
+    alloc: Global,
+    told: &mut String,
+    task: &Task,
+    digits: &str,
+    asked: Asked,
+) -> Result<(), Fail> {
+    let prefix = numbers_of(alloc, digits)?;
+    let text = told_of(alloc, task, prefix.as_slice(), asked)?;
+    told.push_str(text.as_str())?;
+    Ok(())
+}
+
+/// What is told of them all. A case has them and edits of the task with sides.
 struct Told(Asked);
 
 impl Subject for Told {
     fn said(&self, alloc: Global, case: &str) -> Result<String, Fail> {
         let task = task_from(alloc, SIDED, case)?;
-        let mut told = String::new(alloc);
-        for digits in field(case, 0)?.split(',') {
-            let prefix = numbers_of(alloc, digits)?;
-            told.push_str(told_of(alloc, &task, prefix.as_slice(), self.0)?.as_str())?;
-        }
-        Ok(told)
+        told_of_all(alloc, &task, field(case, 0)?, self.0)
     }
 }
 
@@ -126,16 +150,19 @@ fn twins_rise_where_the_later_has_the_greater_number(rt: HostRuntime) {
     pass(&rt, rt.alloc(), &Told(Asked::Rising), row);
 }
 
+fn index_text(alloc: Global, task: &Task, index: Ticks) -> Result<String, AllocError> {
+    let inside = is_in_window(task, index);
+    format!(in alloc; "{inside} {}", distance_from_ideal(task, index))
+}
+
 /// Whether the window has an index, and the distance of the index, as that of the take-off, from the ideal band. A case has
 /// the index and edits of the worked task.
 struct Indices;
 
 impl Subject for Indices {
     fn said(&self, alloc: Global, case: &str) -> Result<String, Fail> {
-        let task = task_with(alloc, case)?;
         let index = Ticks(field(case, 0)?.parse::<i64>()?);
-        let inside = is_in_window(&task, index);
-        Ok(format!(in alloc; "{inside} {}", distance_from_ideal(&task, index))?)
+        Ok(index_text(alloc, &task_with(alloc, case)?, index)?)
     }
 }
 
@@ -228,6 +255,15 @@ fn hold_with(alloc: Global, edits: &str) -> Result<Hold, Fail> {
     Ok(task_with(alloc, edits)?.hold().clone()?)
 }
 
+/// The task with sides and the edits of a case, or the worked one.
+fn other_task(alloc: Global, case: &str) -> Result<Task, Fail> {
+    if case == "worked" {
+        task_with(alloc, "")
+    } else {
+        task_from(alloc, SIDED, case)
+    }
+}
+
 /// The lateral limit of a hold, its number of sides, and the sides of positions 0 to 5.
 fn sides_text(alloc: Global, hold: &Hold) -> Result<String, AllocError> {
     let most = hold.lateral().map(|lateral| lateral.most);
@@ -242,19 +278,20 @@ fn sides_text(alloc: Global, hold: &Hold) -> Result<String, AllocError> {
     format!(in alloc; "{most:?} {}: {sides:?}", hold.sides().len())
 }
 
+/// What is told of the sides of that task.
+struct Sides;
+
+impl Subject for Sides {
+    fn said(&self, alloc: Global, case: &str) -> Result<String, Fail> {
+        Ok(sides_text(alloc, other_task(alloc, case)?.hold())?)
+    }
+}
+
 #[test]
-fn a_lateral_limit_gives_positions_their_sides(rt: HostRuntime) -> Result<(), Fail> {
-    let plain = task_with(rt.alloc(), "")?;
-    assert_eq!(rt;
-        sides_text(rt.alloc(), plain.hold())?.as_str(),
-        "None 0: [0, 0, 0, 0, 0, 0]"
-    );
-    let sided = task_from(rt.alloc(), SIDED, "")?;
-    assert_eq!(rt;
-        sides_text(rt.alloc(), sided.hold())?.as_str(),
-        "Some(Kg(500)) 5: [1, -1, -1, 1, 1, 0]"
-    );
-    Ok(())
+fn a_lateral_limit_gives_positions_their_sides(rt: HostRuntime) {
+    let rows = "None 0: [0, 0, 0, 0, 0, 0]|worked
+Some(Kg(500)) 5: [1, -1, -1, 1, 1, 0]|";
+    pass(&rt, rt.alloc(), &Sides, rows);
 }
 
 /// Whether a hold is the same as its copy, and as another one.
@@ -267,13 +304,8 @@ struct SameHold;
 
 impl Subject for SameHold {
     fn said(&self, alloc: Global, case: &str) -> Result<String, Fail> {
-        let sided = task_from(alloc, SIDED, "")?;
-        let other = if case == "worked" {
-            task_with(alloc, "")?
-        } else {
-            task_from(alloc, SIDED, case)?
-        };
-        told_of_copy(alloc, sided.hold(), other.hold())
+        let other = other_task(alloc, case)?;
+        told_of_copy(alloc, task_from(alloc, SIDED, "")?.hold(), other.hold())
     }
 }
 
@@ -342,15 +374,18 @@ fn within_text(alloc: Global, hold: &Hold) -> Result<String, AllocError> {
     format!(in alloc; "{met} {beyond}")
 }
 
+/// The same of the hold with sides, or of the worked one.
+struct Within;
+
+impl Subject for Within {
+    fn said(&self, alloc: Global, case: &str) -> Result<String, Fail> {
+        Ok(within_text(alloc, other_task(alloc, case)?.hold())?)
+    }
+}
+
 #[test]
-fn a_difference_is_within_the_lateral_limit_that_it_meets_or_within_none(
-    rt: HostRuntime,
-) -> Result<(), Fail> {
-    let sided = task_from(rt.alloc(), SIDED, "")?;
-    assert_eq!(rt; within_text(rt.alloc(), sided.hold())?.as_str(), "3 0");
-    let plain = task_with(rt.alloc(), "")?;
-    assert_eq!(rt; within_text(rt.alloc(), plain.hold())?.as_str(), "3 3");
-    Ok(())
+fn a_difference_is_within_the_lateral_limit_that_it_meets_or_within_none(rt: HostRuntime) {
+    pass(&rt, rt.alloc(), &Within, "3 0|\n3 3|worked");
 }
 
 /// So many containers of one mass.

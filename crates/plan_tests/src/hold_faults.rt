@@ -39,14 +39,14 @@ fn fault(
     Ok(format!(in alloc; "{fault:?}")?)
 }
 
-#[test]
-fn limits_on_unknown_positions_are_named(rt: HostRuntime) -> Result<(), Fail> {
-    let alloc = rt.alloc();
-    let none = fault(alloc, Vec::new(alloc), Vec::new(alloc), Vec::new(alloc))?;
-    assert_eq!(rt; none.as_str(), "None");
+// The fault of a hold with a limit on two positions, of which there is one.
+fn exclude_fault(alloc: Global) -> Result<String, Fail> {
     let unknown = vec![in alloc; (0, 1)]?;
-    let exclude = fault(alloc, unknown, Vec::new(alloc), Vec::new(alloc))?;
-    assert_eq!(rt; exclude.as_str(), "Some(Exclude(0))");
+    fault(alloc, unknown, Vec::new(alloc), Vec::new(alloc))
+}
+
+// The fault of a hold with a cumulative limit up to its position, and one from the next, which is not there.
+fn cumulative_fault(alloc: Global) -> Result<String, Fail> {
     let limits = vec![in alloc;
         Cumulative {
             forward: true,
@@ -59,8 +59,16 @@ fn limits_on_unknown_positions_are_named(rt: HostRuntime) -> Result<(), Fail> {
             most: Kg(900)
         },
     ]?;
-    let cumulative = fault(alloc, Vec::new(alloc), Vec::new(alloc), limits)?;
-    assert_eq!(rt; cumulative.as_str(), "Some(Cumulative(1))");
+    fault(alloc, Vec::new(alloc), Vec::new(alloc), limits)
+}
+
+#[test]
+fn limits_on_unknown_positions_are_named(rt: HostRuntime) -> Result<(), Fail> {
+    let alloc = rt.alloc();
+    let none = fault(alloc, Vec::new(alloc), Vec::new(alloc), Vec::new(alloc))?;
+    assert_eq!(rt; none.as_str(), "None");
+    assert_eq!(rt; exclude_fault(alloc)?.as_str(), "Some(Exclude(0))");
+    assert_eq!(rt; cumulative_fault(alloc)?.as_str(), "Some(Cumulative(1))");
     Ok(())
 }
 

@@ -1,12 +1,12 @@
 // Certificates of small tasks: the worked ones, and many beside a plain program of what makes the first reason.
 use crate::pass;
 use crate::plain_reach::{bound_of, is_prefix_viable};
-use crate::small_tasks::{all_lists, numbers_of, task_with};
+use crate::small_tasks::{all_lists, path_from, task_with};
 use case_rows::{Subject, field};
 use cert_checker::{NoPlan, Proven, Reject, check as judge};
 use certificate::{Certificate, Claim};
 use hold_limits::{Path, Task, hold_index_of, is_in_window, is_sound, outcome};
-use std::alloc::Global;
+use std::alloc::{AllocError, Global};
 use std::test::Fail;
 
 // The cuts that are spelled so: each is its numbers, and a 9 after them.
@@ -29,7 +29,7 @@ fn claim_of(alloc: Global, spelled: &str) -> Result<Claim, Fail> {
     if spelled == "none" {
         return Ok(Claim::NoneFits);
     }
-    Ok(Claim::Best(Path::try_from(numbers_of(alloc, spelled)?.as_slice())?))
+    Ok(Claim::Best(path_from(alloc, spelled)?))
 }
 
 fn certificate(alloc: Global, claim: &str, cuts: &str, expanded: u32) -> Result<Certificate, Fail> {
@@ -40,6 +40,14 @@ fn certificate(alloc: Global, claim: &str, cuts: &str, expanded: u32) -> Result<
     })
 }
 
+fn verdict_text(
+    alloc: Global,
+    task: &Task,
+    certificate: &Certificate,
+) -> Result<String, AllocError> {
+    format!(in alloc; "{:?}", judge(task, certificate))
+}
+
 /// What a check says of a certificate of the worked task, which has the claimed path, the cuts, and the number of expanded
 /// prefixes.
 struct Judged;
@@ -48,8 +56,7 @@ impl Subject for Judged {
     fn said(&self, alloc: Global, case: &str) -> Result<String, Fail> {
         let expanded = field(case, 2)?.parse::<u32>()?;
         let certificate = certificate(alloc, field(case, 0)?, field(case, 1)?, expanded)?;
-        let task = task_with(alloc, "")?;
-        Ok(format!(in alloc; "{:?}", judge(&task, &certificate))?)
+        Ok(verdict_text(alloc, &task_with(alloc, "")?, &certificate)?)
     }
 }
 
@@ -64,15 +71,23 @@ Err(Exists([0, 1]))|none||2";
     pass(&rt, rt.alloc(), &Judged, rows);
 }
 
+fn proven_text(alloc: Global, proven: &Proven) -> Result<String, AllocError> {
+    let numbers = (proven.task().items().len(), proven.certificate().expanded);
+    format!(in alloc; "{:?} {numbers:?}", proven.path().as_slice())
+}
+
+fn no_plan_text(alloc: Global, no_plan: &NoPlan) -> Result<String, AllocError> {
+    let numbers = (no_plan.task().items().len(), no_plan.certificate().expanded);
+    format!(in alloc; "{numbers:?}")
+}
+
 /// The path of the worked task with its evidence, the number of its containers, and the number of expanded prefixes.
 struct BestPath;
 
 impl Subject for BestPath {
     fn said(&self, alloc: Global, case: &str) -> Result<String, Fail> {
         let best = certificate(alloc, field(case, 0)?, field(case, 1)?, 3)?;
-        let proven = Proven::new(task_with(alloc, case)?, best)?;
-        let numbers = (proven.task().items().len(), proven.certificate().expanded);
-        Ok(format!(in alloc; "{:?} {numbers:?}", proven.path().as_slice())?)
+        Ok(proven_text(alloc, &Proven::new(task_with(alloc, case)?, best)?)?)
     }
 }
 
@@ -82,9 +97,7 @@ struct NoPath;
 impl Subject for NoPath {
     fn said(&self, alloc: Global, case: &str) -> Result<String, Fail> {
         let none = certificate(alloc, "none", "", 3)?;
-        let no_plan = NoPlan::new(task_with(alloc, case)?, none)?;
-        let numbers = (no_plan.task().items().len(), no_plan.certificate().expanded);
-        Ok(format!(in alloc; "{numbers:?}")?)
+        Ok(no_plan_text(alloc, &NoPlan::new(task_with(alloc, case)?, none)?)?)
     }
 }
 
@@ -245,14 +258,26 @@ const CLAIMS: &str = "none||1|2|12|21|03|30|11";
 
 const CUTS: &str = "|9|909|09|39|0939|3909|0909|09019|091939|092939|0949|09319|2939";
 
-// The reasons against certificates of the task with each claim and each list of cuts.
+// The reasons against certificates of the task with this claim and each list of cuts.
+fn reasons_of_claim(
+    alloc: Global,
+    task: &Task,
+    prefixes: &[Vec<u8>],
+    claim: &str,
+) -> Result<u8, Fail> {
+    let mut seen = 0;
+    for cuts in CUTS.split('|') {
+        seen |= agree_on(alloc, task, prefixes, claim, cuts)?;
+    }
+    Ok(seen)
+}
+
+// The same with each claim.
 fn reasons_of_task(alloc: Global, task: &Task) -> Result<u8, Fail> {
     let prefixes = all_prefixes(alloc, task.items().len().min(2))?;
     let mut seen = 0;
     for claim in CLAIMS.split('|') {
-        for cuts in CUTS.split('|') {
-            seen |= agree_on(alloc, task, prefixes.as_slice(), claim, cuts)?;
-        }
+        seen |= reasons_of_claim(alloc, task, prefixes.as_slice(), claim)?;
     }
     Ok(seen)
 }

@@ -1,6 +1,6 @@
 // Small tasks in a hold with four container positions, numbered 0 to 3, and a bulk position, as edits of one text.
 use case_rows::edited;
-use hold_limits::Task;
+use hold_limits::{Path, Task};
 use problem_text::read_task;
 use std::alloc::Global;
 use std::test::Fail;
@@ -57,6 +57,11 @@ pub fn numbers_of(alloc: Global, digits: &str) -> Result<Vec<u8>, Fail> {
         numbers.push(*digit & 15)?;
     }
     Ok(numbers)
+}
+
+/// The path of these numbers.
+pub fn path_from(alloc: Global, digits: &str) -> Result<Path, Fail> {
+    Ok(Path::try_from(numbers_of(alloc, digits)?.as_slice())?)
 }
 
 /// All lists of this length of position numbers, in their order.

@@ -61,42 +61,77 @@ fn disks(alloc: Global, held: &Images, log: u64, db: u64) -> Result<Files<Fuse<M
 
 // The functions over any disk do not carry in their proofs what the disks of these tests are made of.
 
-/// Opens the disks as a keeper opens its file, commits the row, and closes them.
-fn commit_over<D: Disk + Drop>(alloc: Global, files: Files<D>, row: &KeptRow) -> Ran<D>
+/// Opens the disks as a keeper opens its file, or gives the files back. It has no clause, so that the proofs of those who open
+/// do not carry what a database is then.
+fn opened<D: Disk + Drop>(
+    alloc: Global,
+    files: Files<D>,
+) -> Result<Connection<FileStore<D>>, Files<D>>
     requires { IsTrue (D.is_usable files.log) × IsTrue (D.is_usable files.db) }
 {
     match Connection::open_files(alloc, files, options()) {
+        Ok(conn) => Ok(conn),
+        Err((_, left)) => Err(left.into_files()),
+    }
+}
+
+/// Opens the disks, commits the row, and closes them.
+fn commit_over<D: Disk + Drop>(alloc: Global, files: Files<D>, row: &KeptRow) -> Ran<D>
+    requires { IsTrue (D.is_usable files.log) × IsTrue (D.is_usable files.db) }
+{
+    match opened(alloc, files) {
         Ok(conn) => commit_and_close(alloc, conn, row),
-        Err((_, left)) => Ran {
+        Err(files) => Ran {
             is_acknowledged: false,
             is_stopped: true,
-            files: left.into_files(),
+            files,
         },
     }
 }
 
 fn commit_and_close<D: Disk + Drop>(
     alloc: Global,
-    mut conn: Connection<FileStore<D>>,
+    conn: Connection<FileStore<D>>,
     row: &KeptRow,
 ) -> Ran<D> {
-    let is_acknowledged = prepare(alloc, &mut conn).is_ok()
-        && commit(alloc, &mut conn, row).is_ok();
-    if !is_acknowledged {
-        return Ran {
-            is_acknowledged,
+    match committed(alloc, conn, row) {
+        Ok(conn) => closed(conn),
+        Err(store) => Ran {
+            is_acknowledged: false,
             is_stopped: true,
-            files: conn.into_store().close(),
-        };
+            files: store.close(),
+        },
     }
+}
+
+/// The database with the row, or what is left of its store.
+fn committed<S: Alter + Drop>(
+    alloc: Global,
+    mut conn: Connection<S>,
+    row: &KeptRow,
+) -> Result<Connection<S>, S> {
+    if is_committed(alloc, &mut conn, row) {
+        Ok(conn)
+    } else {
+        Err(conn.into_store())
+    }
+}
+
+/// Whether the row is committed, to a table that is there then.
+fn is_committed<S: Alter>(alloc: Global, conn: &mut Connection<S>, row: &KeptRow) -> bool {
+    prepare(alloc, conn).is_ok() && commit(alloc, conn, row).is_ok()
+}
+
+/// Closes the disks after a commit, unless they stop.
+fn closed<D: Disk + Drop>(conn: Connection<FileStore<D>>) -> Ran<D> {
     match conn.close_files() {
         Ok(files) => Ran {
-            is_acknowledged,
+            is_acknowledged: true,
             is_stopped: false,
             files,
         },
         Err((_, store)) => Ran {
-            is_acknowledged,
+            is_acknowledged: true,
             is_stopped: true,
             files: store.close(),
         },
@@ -122,13 +157,9 @@ fn rows_in<S: Alter + Drop>(alloc: Global, mut conn: Connection<S>) -> Result<Ve
 fn rows_on<D: Disk + Drop>(alloc: Global, files: Files<D>) -> Result<Vec<KeptRow>, Fail>
     requires { IsTrue (D.is_usable files.log) × IsTrue (D.is_usable files.db) }
 {
-    match Connection::open_files(alloc, files, options()) {
+    match opened(alloc, files) {
         Ok(conn) => rows_in(alloc, conn),
-        Err((_, left)) => {
-            // The files alone: more may be left, and all of it would be proved here.
-            drop(left.into_files());
-            Err(Fail::from("the disks are not opened again"))
-        }
+        Err(_) => Err(Fail::from("the disks are not opened again")),
     }
 }
 

@@ -104,13 +104,6 @@ fn load_the_same<Rt: StoreRuntime + Copy + Drop>(
     Ok(is_empty && are_there && has(alloc, &mut second, OF_BOTH))
 }
 
-#[test]
-fn another_keeper_loads_what_was_committed(rt: HostRuntime) -> Result<(), Fail> {
-    let path = path_of(&rt, "rows")?;
-    assert!(rt; load_the_same(rt, rt.alloc(), path.as_str())?);
-    remove(&rt, path.as_str())
-}
-
 /// Whether each of two keepers loads what the other one committed, in turns.
 fn take_turns<Rt: StoreRuntime + Copy + Drop>(
     rt: Rt,
@@ -129,14 +122,6 @@ fn take_turns<Rt: StoreRuntime + Copy + Drop>(
         }
     }
     Ok(true)
-}
-
-/// Between two calls neither keeps the file from the other, though each leaves it open.
-#[test]
-fn two_keepers_take_turns(rt: HostRuntime) -> Result<(), Fail> {
-    let path = path_of(&rt, "turns")?;
-    assert!(rt; take_turns(rt, rt.alloc(), path.as_str())?);
-    remove(&rt, path.as_str())
 }
 
 /// Writes the bytes of a row as another program would, and copies the log into the file.
@@ -177,13 +162,6 @@ fn both_follow<Rt: StoreRuntime + Copy + Drop>(
     Ok(is_followed && has(host.alloc(), &mut next, REWRITTEN))
 }
 
-#[test]
-fn what_another_program_writes_is_read(rt: HostRuntime) -> Result<(), Fail> {
-    let path = path_of(&rt, "other-program")?;
-    assert!(rt; both_follow(&rt, rt, path.as_str())?);
-    remove(&rt, path.as_str())
-}
-
 /// Whether the keeper at this path misses its file where that is moved to another place, also where a copy stands there, and
 /// loads from it again where it is back.
 fn misses<K: Keeper>(
@@ -207,31 +185,94 @@ fn new_one_misses<Rt: StoreRuntime + Drop>(
     host: &HostRuntime,
     rt: Rt,
     path: &str,
-    other: &str,
 ) -> Result<bool, Fail> {
+    let other = path_of(host, "other-place")?;
     let mut keeper = keeper_at(rt, host.alloc(), path)?;
-    misses(host, path, other, &mut keeper)
+    misses(host, path, other.as_str(), &mut keeper)
+}
+
+/// What is asked of the keepers at a path: that they load the same, take turns, follow another program, miss a file that was
+/// moved away, or fail.
+#[derive(Clone, Copy)]
+enum Asked {
+    LoadTheSame,
+    TakeTurns,
+    Follow,
+    Miss,
+    Fail,
+}
+
+/// Whether they do so.
+fn keepers_do<Rt: StoreRuntime + Copy + Drop>(
+    host: &HostRuntime,
+    rt: Rt,
+    path: &str,
+    asked: Asked,
+) -> Result<bool, Fail> {
+    match asked {
+        Asked::LoadTheSame => load_the_same(rt, host.alloc(), path),
+        Asked::TakeTurns => take_turns(rt, host.alloc(), path),
+        Asked::Follow => both_follow(host, rt, path),
+        Asked::Miss => new_one_misses(host, rt, path),
+        Asked::Fail => fails_at(rt, host.alloc(), path),
+    }
+}
+
+/// The same over files of the system. No other function names a keeper over them.
+fn do_at(rt: HostRuntime, path: &str, asked: Asked) -> Result<bool, Fail> {
+    keepers_do(&rt, rt, path, asked)
+}
+
+/// The same at a path of one test, where nothing is left then.
+fn do_in(rt: HostRuntime, test: &str, asked: Asked) -> Result<bool, Fail> {
+    let path = path_of(&rt, test)?;
+    let is_done = do_at(rt, path.as_str(), asked)?;
+    remove(&rt, path.as_str())?;
+    Ok(is_done)
+}
+
+#[test]
+fn another_keeper_loads_what_was_committed(rt: HostRuntime) -> Result<(), Fail> {
+    assert!(rt; do_in(rt, "rows", Asked::LoadTheSame)?);
+    Ok(())
+}
+
+/// Between two calls neither keeps the file from the other, though each leaves it open.
+#[test]
+fn two_keepers_take_turns(rt: HostRuntime) -> Result<(), Fail> {
+    assert!(rt; do_in(rt, "turns", Asked::TakeTurns)?);
+    Ok(())
+}
+
+#[test]
+fn what_another_program_writes_is_read(rt: HostRuntime) -> Result<(), Fail> {
+    assert!(rt; do_in(rt, "other-program", Asked::Follow)?);
+    Ok(())
 }
 
 #[test]
 fn a_store_that_was_moved_away_is_a_failure(rt: HostRuntime) -> Result<(), Fail> {
-    let (path, other) = (path_of(&rt, "place")?, path_of(&rt, "other-place")?);
-    assert!(rt; new_one_misses(&rt, rt, path.as_str(), other.as_str())?);
-    remove(&rt, path.as_str())
+    assert!(rt; do_in(rt, "place", Asked::Miss)?);
+    Ok(())
 }
 
 #[test]
 fn a_folder_that_does_not_exist_is_a_failure(rt: HostRuntime) -> Result<(), Fail> {
-    assert!(rt; fails_at(rt, rt.alloc(), "no/such/folder/flights.db")?);
+    assert!(rt; do_at(rt, "no/such/folder/flights.db", Asked::Fail)?);
     Ok(())
+}
+
+/// Whether keepers fail over a text in a file, which stays.
+fn fail_over_text(rt: HostRuntime, path: &str) -> Result<bool, Fail> {
+    let text = b"this is no database\n".as_slice();
+    fs::write(&rt, path, text)?;
+    let is_failure = do_at(rt, path, Asked::Fail)?;
+    Ok(is_failure && fs::read(&rt, path)?.as_slice() == text)
 }
 
 #[test]
 fn a_file_that_is_no_database_is_a_failure_and_stays(rt: HostRuntime) -> Result<(), Fail> {
     let path = path_of(&rt, "text")?;
-    let text = b"this is no database\n".as_slice();
-    fs::write(&rt, path.as_str(), text)?;
-    assert!(rt; fails_at(rt, rt.alloc(), path.as_str())?);
-    assert_eq!(rt; fs::read(&rt, path.as_str())?.as_slice(), text);
+    assert!(rt; fail_over_text(rt, path.as_str())?);
     remove(&rt, path.as_str())
 }
