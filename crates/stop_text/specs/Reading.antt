@@ -123,7 +123,7 @@ abbrev pub load_with : Tasks → List Leave → List (List ℕ × List ℕ) → 
 load_with tasks leaves behind =
     stops_of (tasks.first ∷ tasks.second ∷ third_sector tasks.third) (leaves_of tasks.first.items leaves) (map (places_named tasks.first.hold.positions) behind)
 
--- the fault is the first one of the load, or there was no memory for it
+-- the fault is the first one of the load, or memory ran out
 abbrev pub IsFaultOfLoad : Stops → StopTextFault → Type 0
 IsFaultOfLoad load (stop.Line n) = ⊥
 IsFaultOfLoad load stop.NoEnd = ⊥

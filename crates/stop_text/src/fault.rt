@@ -23,7 +23,7 @@ pub enum StopTextFault {
     /// The tasks are lawful, and with what else the lines say they are no load.
     #[error("the load is not lawful: {0}")]
     Stop(StopFault),
-    /// There was no memory for the load.
+    /// Out of memory.
     #[error("out of memory")]
     NoMemory,
 }

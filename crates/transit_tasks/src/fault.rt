@@ -16,7 +16,7 @@ pub enum TransitFault {
     #[error("the messages are about different flights")]
     Heads,
     /// The load message's total, and the sum of the container message's masses in kilograms, which differs.
-    #[error("the load message has {0:?}, the container message {1} kg")]
+    #[error("the load message has {} kg, the container message {} kg", .0.0, .1)]
     Totals(Kg, u64),
     /// No position has the place's name, or a container stands on a bulk position, or a loose load lies on another.
     #[error("place {0} is no such position of the hold")]
