@@ -12,7 +12,7 @@ use Rattle.flight_row.specs.Loading.{aircraft_of}
 use Rattle.flight_history.specs.declared.entry.Act.{Act}
 use Rattle.flight_history.specs.declared.entry.Act.TheVariants as act
 use Rattle.flight_history.specs.declared.request.Request.{Request}
-use Rattle.flight_history.specs.declared.request.Request.TheVariants.{NewFlight, Set, Take, Install, Release, Late, Reopen, Depart, Show}
+use Rattle.flight_history.specs.declared.request.Request.TheVariants.{NewFlight, Set, Take, Install, InstallBest, Release, Late, Reopen, Depart, Show}
 use Rattle.flight_history.specs.declared.reply.Refusal.{Refusal}
 use Rattle.flight_history.specs.Fleet.{new_flight}
 use Rattle.flight_history.specs.Replies.{AnswersWith}
@@ -120,6 +120,7 @@ after-key fleet None (NewFlight leg) same x next asks own is =
 after-key fleet None (Set key edition told) same x next asks own is = let no = subst (λ (y : Act). after fleet None y ≡ Some next) asks is in absurd (cc (no))
 after-key fleet None (Take key edition) same x next asks own is = let no = subst (λ (y : Act). after fleet None y ≡ Some next) asks is in absurd (cc (no))
 after-key fleet None (Install key edition plan) same x next asks own is = let no = subst (λ (y : Act). after fleet None y ≡ Some next) asks.3 is in absurd (cc (no))
+after-key fleet None (InstallBest key edition plan) same x next asks own is = let no = subst (λ (y : Act). after fleet None y ≡ Some next) asks.3 is in absurd (cc (no))
 after-key fleet None (Release key edition) same x next asks own is = let no = subst (λ (y : Act). after fleet None y ≡ Some next) asks is in absurd (cc (no))
 after-key fleet None (Late key edition change) same x next asks own is = let no = subst (λ (y : Act). after fleet None y ≡ Some next) asks is in absurd (cc (no))
 after-key fleet None (Reopen key edition) same x next asks own is = let no = subst (λ (y : Act). after fleet None y ≡ Some next) asks is in absurd (cc (no))

@@ -13,7 +13,7 @@ use Rattle.flight_row.specs.Loading.{aircraft_of}
 use Rattle.flight_history.specs.declared.entry.Act.{Act}
 use Rattle.flight_history.specs.declared.entry.Act.TheVariants as act
 use Rattle.flight_history.specs.declared.request.Request.{Request}
-use Rattle.flight_history.specs.declared.request.Request.TheVariants.{NewFlight, Set, Take, Install, Release, Late, Reopen, Depart, Show}
+use Rattle.flight_history.specs.declared.request.Request.TheVariants.{NewFlight, Set, Take, Install, InstallBest, Release, Late, Reopen, Depart, Show}
 use Rattle.flight_history.specs.History.{flight_at}
 use Rattle.editions.specs.declared.flights.Flight.{Flight}
 use Rattle.editions.specs.Acts.{IsActWith, HasPlanOf, IsActOf, IsWithinLimits}
@@ -43,6 +43,7 @@ plan-for fleet flight t kept = (
 -- the plan of a request, at a flight
 abbrev IsPlanIn : Option Flight → Request → Type 0
 IsPlanIn (Some flight) (Install key edition plan) = flight.task ≡ Ok plan.task
+IsPlanIn (Some flight) (InstallBest key edition plan) = flight.task ≡ Ok plan.task
 IsPlanIn _ _ = ⊥
 
 plan-in : (fleet : List Craft) (flight : Flight) (request : Request) → IsKeptFlight fleet flight → IsPlanIn (Some flight) request ↔ HasPlanOf fleet (Some flight.state) request
@@ -50,6 +51,7 @@ plan-in fleet flight (NewFlight leg) kept = (λ h. h, λ h. h)
 plan-in fleet flight (Set key edition told) kept = (λ h. h, λ h. h)
 plan-in fleet flight (Take key edition) kept = (λ h. h, λ h. h)
 plan-in fleet flight (Install key edition plan) kept = plan-for fleet flight plan.task kept
+plan-in fleet flight (InstallBest key edition plan) kept = plan-for fleet flight plan.task kept
 plan-in fleet flight (Release key edition) kept = (λ h. h, λ h. h)
 plan-in fleet flight (Late key edition change) kept = (λ h. h, λ h. h)
 plan-in fleet flight (Reopen key edition) kept = (λ h. h, λ h. h)
@@ -61,6 +63,10 @@ plan-held flights i flight (NewFlight leg) held = (λ h. h, λ h. h)
 plan-held flights i flight (Set key edition told) held = (λ h. h, λ h. h)
 plan-held flights i flight (Take key edition) held = (λ h. h, λ h. h)
 plan-held flights i flight (Install key edition plan) held = (
+  λ h. subst (λ (o : Option Flight). IsSomeAnd o (λ (f : Flight). f.task ≡ Ok plan.task)) held h,
+  λ h. subst (λ (o : Option Flight). IsSomeAnd o (λ (f : Flight). f.task ≡ Ok plan.task)) (sym held) h,
+)
+plan-held flights i flight (InstallBest key edition plan) held = (
   λ h. subst (λ (o : Option Flight). IsSomeAnd o (λ (f : Flight). f.task ≡ Ok plan.task)) held h,
   λ h. subst (λ (o : Option Flight). IsSomeAnd o (λ (f : Flight). f.task ≡ Ok plan.task)) (sym held) h,
 )
@@ -97,6 +103,9 @@ lawful-with fleet a s (NewFlight leg) same x found within exactly asks = subst (
 lawful-with fleet a s (Set key edition told) same x found within exactly asks = subst (IsLawfulAct a s) (sym asks) within
 lawful-with fleet a s (Take key edition) same x found within exactly asks = subst (IsLawfulAct a s) (sym asks) tt
 lawful-with fleet a s (Install key edition plan) same x found within exactly asks =
+    let fits : IsLawfulAct a s (act.Install edition asks.0 same) = λ is. (plan.task, of-fleet (aircraft_of fleet s.leg) a (λ c. IsTaskOf c (effective s) plan.task) found (exactly.0 is), asks.2) in
+    subst (IsLawfulAct a s) (sym asks.3) fits
+lawful-with fleet a s (InstallBest key edition plan) same x found within exactly asks =
     let fits : IsLawfulAct a s (act.Install edition asks.0 same) = λ is. (plan.task, of-fleet (aircraft_of fleet s.leg) a (λ c. IsTaskOf c (effective s) plan.task) found (exactly.0 is), asks.2) in
     subst (IsLawfulAct a s) (sym asks.3) fits
 lawful-with fleet a s (Release key edition) same x found within exactly asks = subst (IsLawfulAct a s) (sym asks) tt

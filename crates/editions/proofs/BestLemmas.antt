@@ -10,7 +10,7 @@ use Rattle.flight_row.specs.Loading.{aircraft_of}
 use Rattle.flight_history.specs.declared.entry.Act.{Act}
 use Rattle.flight_history.specs.declared.entry.Act.TheVariants as act
 use Rattle.flight_history.specs.declared.request.Request.{Request}
-use Rattle.flight_history.specs.declared.request.Request.TheVariants.{NewFlight, Set, Take, Install, Release, Late, Reopen, Depart, Show}
+use Rattle.flight_history.specs.declared.request.Request.TheVariants.{NewFlight, Set, Take, Install, InstallBest, Release, Late, Reopen, Depart, Show}
 use Rattle.flight_history.specs.declared.reply.Refusal.TheVariants as no
 use Rattle.flight_history.specs.Verdict.{Says, first_of, reasons, not_current, refuse_if, IsVerdict}
 use Rattle.flight_history.specs.History.{Judged, is_accepted, standing_of}
@@ -35,7 +35,12 @@ best-with fleet full o (NewFlight leg) same x exactly asks passed = subst (IsBes
 best-with fleet full o (Set key edition told) same x exactly asks passed = subst (IsBestAt fleet o) (sym asks) tt
 best-with fleet full o (Take key edition) same x exactly asks passed = subst (IsBestAt fleet o) (sym asks) tt
 best-with fleet full None (Install key edition plan) same x exactly asks passed = let h = subst (λ (y : Act). IsVerdict fleet full None y None) asks.3 passed in absurd (cc (h))
+best-with fleet full None (InstallBest key edition plan) same x exactly asks passed = let h = subst (λ (y : Act). IsVerdict fleet full None y None) asks.3 passed in absurd (cc (h))
 best-with fleet full (Some s) (Install key edition plan) same x exactly asks passed =
+    let is = same-is fleet full s edition asks.0 same (subst (λ (y : Act). IsVerdict fleet full (Some s) y None) asks.3 passed) in
+    let best : IsBestAt fleet (Some s) (act.Install edition asks.0 same) = (plan.task, exactly is, asks.2) in
+    subst (IsBestAt fleet (Some s)) (sym asks.3) best
+best-with fleet full (Some s) (InstallBest key edition plan) same x exactly asks passed =
     let is = same-is fleet full s edition asks.0 same (subst (λ (y : Act). IsVerdict fleet full (Some s) y None) asks.3 passed) in
     let best : IsBestAt fleet (Some s) (act.Install edition asks.0 same) = (plan.task, exactly is, asks.2) in
     subst (IsBestAt fleet (Some s)) (sym asks.3) best

@@ -20,6 +20,8 @@ IsActWith same (asked.Set key edition told) a = a ≡ act.Set edition told
 IsActWith same (asked.Take key edition) a = a ≡ act.Take edition
 IsActWith same (asked.Install key edition plan) a =
     (path : ArrayVec ℕ) × (claimed plan.certificate.claim ≡ Some path.items) × IsBest plan.task path.items × (a ≡ act.Install edition path same)
+IsActWith same (asked.InstallBest key edition plan) a =
+    (path : ArrayVec ℕ) × (path.items ≡ plan.path) × IsBest plan.task path.items × (a ≡ act.Install edition path same)
 IsActWith same (asked.Release key edition) a = a ≡ act.Release edition
 IsActWith same (asked.Late key edition change) a = a ≡ act.Late edition change
 IsActWith same (asked.Reopen key edition) a = a ≡ act.Reopen edition
@@ -29,6 +31,7 @@ IsActWith same (asked.Show key what) a = a ≡ act.Show what
 -- the request has a plan for the task of the flight's effective figures
 abbrev pub HasPlanOf : List Craft → Option FlightState → Request → Type 0
 HasPlanOf fleet (Some s) (asked.Install key edition plan) = IsTaskFor fleet s plan.task
+HasPlanOf fleet (Some s) (asked.InstallBest key edition plan) = IsTaskFor fleet s plan.task
 HasPlanOf fleet _ _ = ⊥
 
 -- what is written down of a request about a flight, or where none of its key is there

@@ -8,7 +8,7 @@ use Rattle.flight_state.specs.declared.state.FlightState.{FlightState}
 use Rattle.flight_state.specs.Legs.{key_of}
 use Rattle.flight_history.specs.History.{flight_at}
 use Rattle.flight_history.specs.declared.request.Request.{Request}
-use Rattle.flight_history.specs.declared.request.Request.TheVariants.{Install}
+use Rattle.flight_history.specs.declared.request.Request.TheVariants.{Install, InstallBest}
 use Rattle.editions.specs.declared.flights.Flight.{Flight}
 
 -- the place that a key was given
@@ -51,6 +51,7 @@ state_at flights (Some i) = slice_get (states flights) i
 -- the request installs a plan that was made for the task of the flight at the place
 abbrev pub IsPlanAt : List Flight → Option ℕ → Request → Type 0
 IsPlanAt flights (Some i) (Install key edition plan) = IsSomeAnd (slice_get flights i) (λ (flight : Flight). flight.task ≡ Ok plan.task)
+IsPlanAt flights (Some i) (InstallBest key edition plan) = IsSomeAnd (slice_get flights i) (λ (flight : Flight). flight.task ≡ Ok plan.task)
 IsPlanAt flights _ _ = ⊥
 
 -- the flights with this one at the place of another, or behind the last

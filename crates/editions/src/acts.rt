@@ -15,6 +15,7 @@ pub fn key_of(request: &Request) -> FlightKey
         Request::Set { key, .. } => *key,
         Request::Take { key, .. } => *key,
         Request::Install { key, .. } => *key,
+        Request::InstallBest { key, .. } => *key,
         Request::Release { key, .. } => *key,
         Request::Late { key, .. } => *key,
         Request::Reopen { key, .. } => *key,
@@ -42,6 +43,11 @@ pub fn act_of(request: Request, same: bool) -> Act
         Request::Set { edition, part, .. } => Act::Set { edition, part },
         Request::Take { edition, .. } => Act::Take { edition },
         Request::Install { edition, plan, .. } => Act::Install {
+            edition,
+            path: copy_of(plan.path()),
+            same,
+        },
+        Request::InstallBest { edition, plan, .. } => Act::Install {
             edition,
             path: copy_of(plan.path()),
             same,

@@ -9,15 +9,15 @@ ghost use Rattle.editions.specs.Sound.{IsKeptFlight};
 
 use crate::acts::act_of;
 use crate::flights::{Flight, Flights};
-use cert_checker::Proven;
 use flight_history::{Act, Request};
+use hold_limits::Task;
 
-/// Whether the plan was made for the task of the flight. No memory is taken.
-fn is_for(flight: &Flight, plan: &Proven) -> bool
-    ensures { IsTrue result ↔ (flight.now.task ≡ Ok plan.now.task) }
+/// Whether a plan of this task was made for the task of the flight. No memory is taken.
+fn is_for(flight: &Flight, planned: &Task) -> bool
+    ensures { IsTrue result ↔ (flight.now.task ≡ Ok planned.now) }
 {
     match &flight.task {
-        Ok(task) => task.same(plan.task()),
+        Ok(task) => task.same(planned),
         Err(_) => false,
     }
 }
@@ -27,12 +27,13 @@ fn is_same(flights: &Flights, place: Option<usize>, request: &Request) -> bool
     requires { IfSome place (λ i. i < length flights.now.flights) }
     ensures { IsTrue result ↔ IsPlanAt flights.now.flights place request.now }
 {
-    let Request::Install { plan, .. } = request else {
+    let Some(i) = place else {
         return false;
     };
-    match place {
-        Some(i) => is_for(flights.at(i), plan),
-        None => false,
+    match request {
+        Request::Install { plan, .. } => is_for(flights.at(i), plan.task()),
+        Request::InstallBest { plan, .. } => is_for(flights.at(i), plan.task()),
+        _ => false,
     }
 }
 

@@ -14,6 +14,7 @@ key_asked (asked.NewFlight leg) = key_of leg
 key_asked (asked.Set key edition told) = key
 key_asked (asked.Take key edition) = key
 key_asked (asked.Install key edition plan) = key
+key_asked (asked.InstallBest key edition plan) = key
 key_asked (asked.Release key edition) = key
 key_asked (asked.Late key edition change) = key
 key_asked (asked.Reopen key edition) = key

@@ -4,6 +4,7 @@ ghost use Rattle.std.specs.Prelude.{◌≡◌, IfOk};
 ghost use Rattle.flight_history.specs.Step.{replaced};
 
 use base_words::NoMemory;
+use best_plan::BestPlan;
 use cert_checker::Proven;
 use flight_state::{FlightKey, Leg, Lmc};
 use payload::Cabin;
@@ -57,6 +58,12 @@ pub enum Request {
         key: FlightKey,
         edition: u32,
         plan: Proven,
+    },
+    /// Installs a plan of the hold that is proved to be the best by other evidence, that of trees say.
+    InstallBest {
+        key: FlightKey,
+        edition: u32,
+        plan: BestPlan,
     },
     /// Releases the flight: issues its sheet.
     Release {

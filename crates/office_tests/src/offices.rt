@@ -5,10 +5,11 @@ ghost use Rattle.editions.specs.Acts.{IsPartWithin, IsWithinLimits};
 
 use aircraft_file::Aircraft;
 use base_words::NoMemory;
+use best_plan::BestPlan;
 use cert_checker::Proven;
 use certificate::{Certificate, Claim, Cuts};
 use editions::{Entry, FigurePart, Office, Refusal, Reply, Request, StartFault, What};
-use flight_history::{new_flight, standing_after};
+use flight_history::{copy_of, new_flight, standing_after};
 use flight_state::{FlightState, Lmc};
 use hold_limits::{Name, Path, Task};
 use keeper::{Bytes, FailingKeeper, Keeper, KeptRow, MemoryKeeper};
@@ -135,6 +136,12 @@ fn plan_of(alloc: Global, task: Task) -> Result<Proven, NoMemory> {
     Proven::new(task, certificate).map_err(|_| NoMemory)
 }
 
+/// The plan alone, without the certificate that proves it.
+fn best_of(alloc: Global, plan: &Proven) -> Result<BestPlan, NoMemory> {
+    let task = plan.task().copy(alloc)?;
+    Ok(BestPlan::new(task, copy_of(plan.path())))
+}
+
 /// The rule that is broken, where one is.
 fn broken_in(rules: &Rules) -> &'static str {
     match rules.as_slice() {
@@ -197,6 +204,22 @@ fn reply_to<K: Keeper>(
     Ok(office.turn(alloc, keeper, 1, request))
 }
 
+/// The request to install the plan of a task: with its certificate of cuts, or as a plan that other evidence proves.
+fn install_of(alloc: Global, word: &[u8], edition: u32, task: Task) -> Result<Request, NoMemory>
+    ensures { IfOk result IsWithinLimits }
+{
+    let key = key()?;
+    let plan = plan_of(alloc, task)?;
+    if word == b"install".as_slice() {
+        return Ok(Request::Install { key, edition, plan });
+    }
+    Ok(Request::InstallBest {
+        key,
+        edition,
+        plan: best_of(alloc, &plan)?,
+    })
+}
+
 /// The request of a line of a talk. The plan of the task that was taken last is what is installed.
 fn request_in(
     alloc: Global,
@@ -206,17 +229,13 @@ fn request_in(
 ) -> Result<Request, Fail>
     ensures { IfOk result IsWithinLimits }
 {
-    if word != b"install".as_slice() {
+    if word != b"install".as_slice() && word != b"best".as_slice() {
         return Ok(request_of(word, edition)?);
     }
     let Some(task) = taken else {
         return Err(Fail::new("a task was taken"));
     };
-    Ok(Request::Install {
-        key: key()?,
-        edition,
-        plan: plan_of(alloc, task.copy(alloc)?)?,
-    })
+    Ok(install_of(alloc, word, edition, task.copy(alloc)?)?)
 }
 
 /// The field at this place of a line.
@@ -275,6 +294,27 @@ fuel|1|edition 2
 take|2|task
 install|2|edition 2";
 
+/// It gets the same plan, which other evidence proves.
+const PLANNED_BEST: &[u8] = b"new|1|opened
+fuel|1|edition 2
+take|2|task
+best|2|edition 2";
+
+/// Plans by either evidence come again and again, until the flight has departed.
+const BY_EITHER: &[u8] = b"new|1|opened
+fuel|1|edition 2
+take|2|task
+best|3|ahead 2
+best|2|edition 2
+install|2|edition 2
+best|2|edition 2
+release|2|sheet 2
+best|2|edition 2
+release|2|sheet 2
+depart|2|edition 2
+best|2|gone
+install|2|gone";
+
 /// The same flight is released, and changed late.
 const LATE: &[u8] = b"new|1|opened
 fuel|1|edition 2
@@ -293,14 +333,16 @@ late|2|edition 3
 depart|3|edition 3
 release|3|gone";
 
-/// A plan comes late, or is for other figures.
+/// A plan by either evidence comes late, or is for other figures.
 const OTHER_FIGURES: &[u8] = b"new|1|opened
 fuel|1|edition 2
 take|2|task
 limits|2|edition 3
 dry|3|edition 4
 install|2|stale 4
+best|2|stale 4
 install|4|other task
+best|4|other task
 release|5|ahead 4";
 
 /// The sheet of a released flight is asked for again; a plan does not outlast its figures.
@@ -399,6 +441,12 @@ fn a_plan_for_other_figures_is_refused(rt: HostRuntime) -> Result<(), Fail> {
     Ok(())
 }
 
+#[test]
+fn a_plan_by_other_evidence_is_answered_alike(rt: HostRuntime) -> Result<(), Fail> {
+    assert_eq!(rt; first_wrong_of(rt.alloc(), BY_EITHER)?, None);
+    Ok(())
+}
+
 /// What an office leaves, as a line.
 fn left_by(alloc: Global, office: Office) -> Result<String, AllocError> {
     let spare = office.spare();
@@ -484,10 +532,10 @@ fn row<K: Keeper>(alloc: Global, office: &mut Office, keeper: &mut K) -> Result<
     }
 }
 
-/// The row of a flight in an office, which keeps it.
-fn kept_row(alloc: Global, keeper: &mut MemoryKeeper) -> Result<Bytes, Fail> {
+/// The row of a flight in an office, which keeps it, after a talk.
+fn kept_row(alloc: Global, keeper: &mut MemoryKeeper, talk: &[u8]) -> Result<Bytes, Fail> {
     let mut office = Office::start(alloc, fleet(alloc)?, 20, keeper)?;
-    if first_wrong(alloc, &mut office, keeper, PLANNED)?.is_some() {
+    if first_wrong(alloc, &mut office, keeper, talk)?.is_some() {
         return Err(Fail::new("each reply is the one that is due"));
     }
     row(alloc, &mut office, keeper)
@@ -503,10 +551,25 @@ fn opened_row(alloc: Global, keeper: &mut MemoryKeeper) -> Result<(usize, Bytes)
 #[test]
 fn an_office_goes_on_with_the_kept_rows(rt: HostRuntime) -> Result<(), Fail> {
     let mut keeper = MemoryKeeper::new(rt.alloc());
-    let shown = kept_row(rt.alloc(), &mut keeper)?;
+    let shown = kept_row(rt.alloc(), &mut keeper, PLANNED)?;
     let (flights, row) = opened_row(rt.alloc(), &mut keeper)?;
     assert_eq!(rt; flights, 1);
     assert!(rt; row.as_slice() == shown.as_slice());
+    Ok(())
+}
+
+/// The row of a flight after a talk with a new office.
+fn row_after(alloc: Global, talk: &[u8]) -> Result<Bytes, Fail> {
+    kept_row(alloc, &mut MemoryKeeper::new(alloc), talk)
+}
+
+#[test]
+fn a_plan_by_other_evidence_leaves_the_same_row(rt: HostRuntime) -> Result<(), Fail> {
+    let (row, best) = (
+        row_after(rt.alloc(), PLANNED)?,
+        row_after(rt.alloc(), PLANNED_BEST)?,
+    );
+    assert!(rt; row.as_slice() == best.as_slice());
     Ok(())
 }
 
