@@ -1,9 +1,9 @@
--- The answers to jobs.
+-- What good certificates claim, and summaries.
 use Rattle.std.proofs.Common.{◌≡◌, ℕ, List, ◌++◌, Option, Some, None, Result, Ok, Err, refl, sym, ap, subst, ◌∙◌}
 use Rattle.std.specs.Result.{IfOk}
 use Rattle.text_lines.specs.Lines.{text_of}
 use Rattle.text_lines.proofs.SectionLemmas.{text_of-append}
-use Rattle.std.specs.Option.{IsSomeAnd, MatchOption}
+use Rattle.std.specs.Option.{IsSomeAnd}
 use Rattle.hold_limits.specs.Problem.{Problem}
 use Rattle.hold_limits.specs.Placement.{IsBest}
 use Rattle.hold_limits.specs.Faults.{IsLawful}
@@ -20,18 +20,15 @@ use Rattle.std.specs.declared.alloc.Global.{Global}
 use Rattle.placer.specs.Near.{AreMoreThan, IsNear, IsNearCertificate}
 use Rattle.placer.specs.declared.answer.Answer.{Answer}
 use Rattle.placer.specs.declared.answer.Answer.TheVariants.{Best, NoneFits, Budget}
-use Rattle.placer.specs.Answers.{IfCertified, IsAnswerTo}
-use Rattle.placer.specs.AnswerText.{evidence_text, budget_text, answer_text}
-use Rattle.plan_answers.specs.Outcomes.{outcome_of, summary_outcome, IsSummaryText}
+use Rattle.placer.specs.Answers.{IsAnswerTo}
+use Rattle.plan_answers.specs.Outcomes.{summary_outcome, IsSummaryText}
 use Rattle.generated_load.specs.Load.{generated_problem}
-use Rattle.plan_answers.specs.declared.reply.Outcome.TheVariants.{Done, NothingFits, OverBudget}
-use Rattle.plan_answers.specs.Limits.{usual_budget}
+use Rattle.task_answers.specs.declared.reply.Outcome.TheVariants.{Done, OverBudget}
+use Rattle.task_answers.specs.Limits.{usual_budget}
 use Rattle.plan_answers.specs.ReplyText.{plan_summary, none_summary, budget_summary}
 use Rattle.plan_answers.specs.Claims.{IsTrueOf}
-use Rattle.plan_answers.specs.Names.{IsNamedTask}
-use Rattle.plan_answers.proofs.ReadBack.{cuts-read_back}
-use Rattle.plan_answers.specs.NearReply.{IsEvidence, IsPlacing}
-use Rattle.plan_answers.specs.NearReply.IsPlacing.{plan, nothing_fits, over_budget}
+use Rattle.task_answers.proofs.JobLemmas.{path_of, none_claimed, IsGoodAnswer}
+use Rattle.task_answers.specs.NearReply.{IsEvidence}
 use Rattle.plan_answers.specs.SummaryReply.{IsSummary}
 use Rattle.plan_answers.specs.SummaryReply.IsSummary.{plan_summed, none_summed, budget_summed}
 
@@ -46,35 +43,6 @@ good-true t c lawful good =
     true-claim t (claimed c.claim)
     (λ path is. good-best t path c.cuts c.expanded (band-in_order t lawful) (subst (λ claim. IsGood t claim c.cuts c.expanded) is good))
     (λ is. good-none t c.cuts c.expanded (subst (λ claim. IsGood t claim c.cuts c.expanded) is good))
-
--- a path that is claimed, of which P holds
-pub path_of : (claim : Option (List ℕ)) (P : List ℕ → Type 0) → IsSomeAnd claim P → (path : List ℕ) × (claim ≡ Some path) × P path
-path_of None P is = absurd is
-path_of (Some path) P is = (path, refl, is)
-
--- where no path is admissible, none is claimed as the best
-pub none_claimed : (t : Problem) (claim : Option (List ℕ)) → HasNoPlacement t → MatchOption claim (HasNoPlacement t) (IsBest t) → claim ≡ None
-none_claimed t None none is = refl
-none_claimed t (Some path) none is = absurd (none path is.admissible)
-
-plan-placing : (t : Problem) (budget : ℕ) (c : Certificate) (text : List ℕ) → IsLawful t → IsNamedTask t → IsSomeAnd (claimed c.claim) (IsBest t) → IsNearCertificate t c
-    → IsGoodFor t c → AreAtMost (IsNear t) budget → text ≡ evidence_text t c → IsPlacing t budget Done text
-plan-placing t budget c text lawful named best near good enough is =
-    let path = path_of (claimed c.claim) (IsBest t) best in
-    subst (IsPlacing t budget Done) (sym is)
-    (plan path.0 c path.2 path.1 (record { near = near; good = good; enough = enough }) (cuts-read_back t budget c lawful named near good enough))
-
-none-placing : (t : Problem) (budget : ℕ) (c : Certificate) (text : List ℕ) → IsLawful t → IsNamedTask t → HasNoPlacement t → IsNearCertificate t c → IsGoodFor t c
-    → AreAtMost (IsNear t) budget → text ≡ evidence_text t c → IsPlacing t budget NothingFits text
-none-placing t budget c text lawful named none near good enough is =
-    subst (IsPlacing t budget NothingFits) (sym is)
-    (nothing_fits c none (none_claimed t (claimed c.claim) none near.claim) (record { near = near; good = good; enough = enough })
-    (cuts-read_back t budget c lawful named near good enough))
-
-budget-placing : (t : Problem) (budget spent : ℕ) (text : List ℕ) → spent ≡ budget → AreMoreThan (IsNear t) spent → text ≡ budget_text spent
-    → IsPlacing t budget OverBudget text
-budget-placing t budget spent text same more is =
-    subst (IsPlacing t budget OverBudget) (sym (is ∙ ap budget_text same)) (over_budget (subst (AreMoreThan (IsNear t)) same more))
 
 -- the evidence for the placement of a generated load
 summed-evidence : (number : ℕ) (t : Problem) (c : Certificate) → t ≡ generated_problem number → IsNearCertificate t c → IsGoodFor t c → AreAtMost (IsNear t) usual_budget
@@ -102,18 +70,6 @@ budget-summary : (number : ℕ) (t : Problem) (spent : ℕ) (text : List ℕ) �
 budget-summary number t spent text made same more is =
     subst (IsSummary number OverBudget) (sym is)
     (budget_summed (subst (λ (p : Problem). AreMoreThan (IsNear p) usual_budget) made (subst (AreMoreThan (IsNear t)) same more)))
-
--- the certificate of an answer is good for its own task
-abbrev pub IsGoodAnswer : Answer → Type 0
-IsGoodAnswer answer = IfCertified answer (λ it. IsGoodFor it.task it.certificate)
-
-pub is-placing : (t : Problem) (budget : ℕ) (answer : Answer) (text : List ℕ) → IsLawful t → IsNamedTask t → IsAnswerTo t budget answer → IsGoodAnswer answer
-    → text ≡ answer_text t answer → IsPlacing t budget (outcome_of answer) text
-is-placing t budget (Best proven) text lawful named to good is =
-    plan-placing t budget proven.certificate text lawful named to.path to.near (subst (λ (p : Problem). IsGoodFor p proven.certificate) to.best good) to.enough is
-is-placing t budget (NoneFits no_plan) text lawful named to good is =
-    none-placing t budget no_plan.certificate text lawful named to.nothing to.near (subst (λ (p : Problem). IsGoodFor p no_plan.certificate) to.none good) to.enough is
-is-placing t budget (Budget n) text lawful named to good is = budget-placing t budget n text to.spent to.over is
 
 pub is-summary : (number : ℕ) (t : Problem) (answer : Answer) (text : List ℕ) → t ≡ generated_problem number → IsAnswerTo t usual_budget answer → IsGoodAnswer answer
     → IsSummaryText number answer text → IsSummary number (summary_outcome answer) text

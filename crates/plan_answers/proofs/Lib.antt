@@ -1,9 +1,3 @@
-pub mod AnyLemmas
-pub mod AnswerLines
-pub mod CutCounts
-pub mod ShortText
-pub mod ReadBack
-pub mod SpelledLemmas
 pub mod PricedCounts
 pub mod PricedShort
 pub mod PricedBack

@@ -23,14 +23,14 @@ use Rattle.priced_certificate.proofs.WriterLemmas.{written_spells}
 use Rattle.priced_checker.specs.Good.{prefix_of, IsPriced, IsGoodPricedFor}
 use Rattle.priced_placer.specs.PriceNear.{IsPriceNear, IsPriceNearCertificate}
 use Rattle.priced_placer.specs.AnswerText.{priced_text}
-use Rattle.plan_answers.specs.Limits.{longest_priced}
-use Rattle.plan_answers.specs.Names.{IsNamedTask}
+use Rattle.task_answers.specs.Limits.{longest_priced}
+use Rattle.task_answers.specs.Names.{IsNamedTask}
 use Rattle.plan_answers.specs.PricedReply.{IsPricedIn}
-use Rattle.plan_answers.proofs.AnswerLines.{IsTold, told-earlier, claim_lines, claim_text-lines, claim-told}
+use Rattle.task_answers.proofs.AnswerLines.{IsTold, told-earlier, claim_lines, claim_text-lines, claim-told}
 use Rattle.plan_answers.proofs.PricedCounts.{price-few_cuts, price-few_expanded}
 use Rattle.plan_answers.proofs.PricedShort.{AreShortPrices, IsShortPricedCut, priced-short}
-use Rattle.plan_answers.proofs.ReadBack.{claimed_sound, claim-spelled}
-use Rattle.plan_answers.proofs.ShortText.{IsFew, text-short, claimed-short}
+use Rattle.task_answers.proofs.ReadBack.{claimed_sound, claim-spelled}
+use Rattle.task_answers.proofs.ShortText.{IsFew, text-short, claimed-short}
 
 -- Cuts ------------------------------------------------------------------------------------------
 

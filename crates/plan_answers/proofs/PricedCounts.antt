@@ -9,7 +9,7 @@ use Rattle.best_first.proofs.CountLemmas.{All-from_contains, length-within}
 use Rattle.priced_certificate.specs.declared.parts.PricedCertificate.{PricedCertificate}
 use Rattle.priced_checker.specs.Good.{prefixes_of}
 use Rattle.priced_placer.specs.PriceNear.{IsPriceNear, IsPriceNearAndIncomplete, HasPriceNearParent, IsPriceCut, IsPriceNearCertificate}
-use Rattle.plan_answers.proofs.CutCounts.{children, length-children, child-within, differ}
+use Rattle.task_answers.proofs.CutCounts.{children, length-children, child-within, differ}
 
 -- a cut that is not empty is one of the price-near prefixes that leave containers, with a number below 64 at its end
 cut-child : (t : Problem) (prefixes : List (List ℕ)) (cut : List ℕ) → IsLawful t → ((p : List ℕ) → IsPriceNearAndIncomplete t p → Contains prefixes p) → IsPriceCut t cut

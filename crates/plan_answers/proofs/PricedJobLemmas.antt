@@ -14,8 +14,8 @@ use Rattle.priced_placer.specs.Answers.{IsPricedAnswerTo}
 use Rattle.priced_placer.specs.AnswerText.{priced_answer_text}
 use Rattle.priced_placer.specs.declared.answer.PricedAnswer.{PricedAnswer}
 use Rattle.priced_placer.specs.declared.answer.PricedAnswer.TheVariants.{Best, NoneFits, Budget}
-use Rattle.plan_answers.specs.declared.reply.Outcome.TheVariants.{Done, NothingFits, OverBudget}
-use Rattle.plan_answers.specs.Names.{IsNamedTask}
+use Rattle.task_answers.specs.declared.reply.Outcome.TheVariants.{Done, NothingFits, OverBudget}
+use Rattle.task_answers.specs.Names.{IsNamedTask}
 use Rattle.plan_answers.specs.Outcomes.{priced_outcome}
 use Rattle.plan_answers.specs.PricedReply.{IsPricedPlacing}
 use Rattle.plan_answers.specs.PricedReply.IsPricedPlacing.{plan, nothing_fits, over_budget}

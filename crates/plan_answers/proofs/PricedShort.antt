@@ -17,7 +17,7 @@ use Rattle.assignment_prices.specs.Priced.{AreSmall}
 use Rattle.priced_certificate.specs.declared.parts.PricedCut.{PricedCut}
 use Rattle.priced_certificate.specs.declared.parts.PricedCertificate.{PricedCertificate}
 use Rattle.priced_certificate.specs.PricedText.{start_line, price_word, end_line, lower_line, upper_line, lines_of_cut, lines_of_cuts, last_lines, priced_certificate_text}
-use Rattle.plan_answers.proofs.ShortText.{IsShort, IsFew, text-short, path-short, claim-short, number-short, pair-short}
+use Rattle.task_answers.proofs.ShortText.{IsShort, IsFew, text-short, path-short, claim-short, number-short, pair-short}
 
 -- Prices ----------------------------------------------------------------------------------------
 

@@ -15,9 +15,9 @@ use Rattle.stop_placer.specs.StopAnswers.{IsStopAnswerTo}
 use Rattle.stop_placer.specs.declared.answer.StopAnswer.{StopAnswer}
 use Rattle.stop_placer.specs.declared.answer.StopAnswer.TheVariants.{Best, NoneFits, Budget}
 use Rattle.stop_answer.specs.AnswerText.{stop_answer_text}
-use Rattle.plan_answers.specs.declared.reply.Outcome.TheVariants.{Done, NothingFits, OverBudget}
+use Rattle.task_answers.specs.declared.reply.Outcome.TheVariants.{Done, NothingFits, OverBudget}
 use Rattle.plan_answers.specs.Outcomes.{stop_outcome}
-use Rattle.plan_answers.specs.Limits.{longest_task}
+use Rattle.task_answers.specs.Limits.{longest_task}
 use Rattle.plan_answers.specs.StopReply.{IsStopsIn, IsStopPlacing}
 use Rattle.plan_answers.specs.StopReply.IsStopPlacing.{plan, nothing_fits, over_budget}
 

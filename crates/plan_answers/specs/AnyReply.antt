@@ -5,10 +5,10 @@ use Rattle.certificate.specs.declared.parts.Certificate.{Certificate}
 use Rattle.tree_certificate.specs.Listed.{ListedTrees, listed_trees}
 use Rattle.plan_answers.specs.declared.any_certificate.AnyCertificate.{AnyCertificate}
 use Rattle.plan_answers.specs.declared.any_certificate.AnyCertificate.TheVariants.{OfCuts, OfTrees}
-use Rattle.plan_answers.specs.declared.reply.Outcome.{Outcome}
+use Rattle.task_answers.specs.declared.reply.Outcome.{Outcome}
 use Rattle.plan_answers.specs.ReplyText.{long_text}
-use Rattle.plan_answers.specs.Limits.{longest_certificate}
-use Rattle.plan_answers.specs.Kinds.{BeginsWithCuts}
+use Rattle.task_answers.specs.Limits.{longest_certificate}
+use Rattle.task_answers.specs.Kinds.{BeginsWithCuts}
 use Rattle.plan_answers.specs.NearReply.{IsCertificateIn, IsCertificateRefusal, IsJudgement}
 use Rattle.plan_answers.specs.TreeReply.{AreTreesIn, IsTreeRefusal, IsTreeJudgement}
 

@@ -1,9 +1,9 @@
-pub mod Limits
+pub use Rattle.task_answers.specs.Limits
+pub use Rattle.task_answers.specs.Kinds
+pub use Rattle.task_answers.specs.Names
 pub mod Outcomes
 pub mod ReplyText
 pub mod Claims
-pub mod Kinds
-pub mod Names
 pub mod NearReply
 pub mod TreeReply
 pub mod PricedReply

@@ -7,14 +7,9 @@ use Rattle.priced_placer.specs.declared.answer.PricedAnswer.{PricedAnswer}
 use Rattle.priced_placer.specs.declared.answer.PricedAnswer.TheVariants as priced
 use Rattle.stop_placer.specs.declared.answer.StopAnswer.{StopAnswer}
 use Rattle.stop_placer.specs.declared.answer.StopAnswer.TheVariants as stops
-use Rattle.plan_answers.specs.declared.reply.Outcome.{Outcome}
-use Rattle.plan_answers.specs.declared.reply.Outcome.TheVariants.{Done, NothingFits, OverBudget}
+use Rattle.task_answers.specs.declared.reply.Outcome.{Outcome}
+use Rattle.task_answers.specs.declared.reply.Outcome.TheVariants.{Done, NothingFits, OverBudget}
 use Rattle.plan_answers.specs.ReplyText.{plan_summary, none_summary, budget_summary}
-
-abbrev pub outcome_of : Answer → Outcome
-outcome_of (Best proven) = Done
-outcome_of (NoneFits no_plan) = NothingFits
-outcome_of (Budget n) = OverBudget
 
 abbrev pub priced_outcome : PricedAnswer → Outcome
 priced_outcome (priced.Best c) = Done

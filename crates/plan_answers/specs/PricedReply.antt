@@ -16,11 +16,11 @@ use Rattle.priced_checker.specs.FirstReason.{IsFirstPricedReasonFor}
 use Rattle.priced_checker.specs.declared.reject.PricedReject.{PricedReject}
 use Rattle.priced_placer.specs.PriceNear.{IsPriceNear, IsPriceNearCertificate}
 use Rattle.priced_placer.specs.AnswerText.{priced_text}
-use Rattle.plan_answers.specs.declared.reply.Outcome.{Outcome}
-use Rattle.plan_answers.specs.declared.reply.Outcome.TheVariants.{Done, NothingFits, OverBudget, Rejected}
+use Rattle.task_answers.specs.declared.reply.Outcome.{Outcome}
+use Rattle.task_answers.specs.declared.reply.Outcome.TheVariants.{Done, NothingFits, OverBudget, Rejected}
 use Rattle.plan_answers.specs.ReplyText.{long_text, IsCertificateFaultLine, good_text, rejected_text}
-use Rattle.plan_answers.specs.Limits.{longest_priced}
-use Rattle.plan_answers.specs.Limits.{greatest_priced_budget}
+use Rattle.task_answers.specs.Limits.{longest_priced}
+use Rattle.task_answers.specs.Limits.{greatest_priced_budget}
 use Rattle.plan_answers.specs.Claims.{IsTrueOf}
 
 -- the bytes of a file are not too many, and spell this certificate with prices for the task

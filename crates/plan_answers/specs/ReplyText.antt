@@ -11,11 +11,10 @@ use Rattle.stop_tasks.specs.declared.fault.StopFault.{StopFault}
 use Rattle.stop_tasks.specs.declared.fault.StopFault.TheVariants as stop
 use Rattle.stop_text.specs.declared.fault.StopTextFault.{StopTextFault}
 use Rattle.stop_text.specs.declared.fault.StopTextFault.TheVariants as stops
-use Rattle.text_lines.specs.Lines.{line_of, text_of}
+use Rattle.text_lines.specs.Lines.{text_of}
 use Rattle.problem_text.specs.declared.fault.TextFault.{TextFault}
 use Rattle.problem_text.specs.declared.fault.TextFault.TheVariants as text
 use Rattle.plan_text.specs.PlanText.{one_line, balance_lines}
-use Rattle.certificate.specs.Evidence.{claimed}
 use Rattle.certificate.specs.CertificateText.{path_line}
 use Rattle.certificate.specs.declared.fault.CertFault.{CertFault}
 use Rattle.certificate.specs.declared.fault.CertFault.TheVariants as cert
@@ -24,21 +23,17 @@ use Rattle.certificate.specs.declared.parts.Claim.TheVariants.{Best, NoneFits}
 use Rattle.certificate.specs.declared.parts.Certificate.{Certificate}
 use Rattle.priced_checker.specs.declared.reject.PricedReject.{PricedReject}
 use Rattle.priced_checker.specs.declared.reject.PricedReject.TheVariants.{NotAPlacement, CutOrder, CutNotViable, CutWeak, Nearer, Exists, MoreExpanded, Prices}
-use Rattle.tree_certificate.specs.Listed.{ListedTrees}
-use Rattle.tree_certificate.specs.TreeText.{tree_text}
 use Rattle.tree_checker.specs.declared.rejection.TreeRejection.{TreeRejection}
 use Rattle.tree_checker.specs.declared.rejection.TreeRejection.TheVariants as wrong
-use Rattle.placer.specs.AnswerText.{claim_text}
 use Rattle.generated_load.specs.Load.{generated_problem}
-use Rattle.plan_answers.specs.Limits.{usual_budget}
+use Rattle.task_answers.specs.Limits.{usual_budget}
+use Rattle.task_answers.specs.ReplyText.{number_line}
+pub use Rattle.task_answers.specs.ReplyText.{long_text}
 
 abbrev pub usage_text : List ℕ
 usage_text = one_line (codes "USAGE" ∷ [])
 
 -- Refused files ---------------------------------------------------------------------------------
-
-abbrev pub long_text : List ℕ
-long_text = one_line (codes "INPUT" ∷ codes "LONG" ∷ [])
 
 -- a line that reports a fault of the input: its kind and a number
 abbrev pub input_text : List ℕ → ℕ → List ℕ
@@ -127,20 +122,7 @@ IsTreeRejectionLine (wrong.WrongOperation number at) line = line ≡ one_line (c
 IsTreeRejectionLine (wrong.WrongSibling at) line = line ≡ rejected_at_text 5 at
 IsTreeRejectionLine wrong.NoMemory line = ⊥
 
--- Placements by trees ---------------------------------------------------------------------------
-
--- what is claimed, and then the certificate of trees for it
-abbrev pub tree_evidence_text : Problem → ListedTrees → List ℕ
-tree_evidence_text t c = claim_text t (claimed c.claim) ++ tree_text t.hold.positions c
-
-abbrev pub undecided_text : ℕ → List ℕ
-undecided_text looks = one_line (codes "UNDECIDED" ∷ number_text looks ∷ [])
-
 -- Summaries of generated loads ------------------------------------------------------------------
-
--- a word and a number
-abbrev pub number_line : List ℕ → ℕ → List ℕ
-number_line word n = line_of (word ∷ number_text n ∷ [])
 
 abbrev pub total_mass : List Item → ℕ
 total_mass items = sum_by (λ (item : Item). item.mass.0) items

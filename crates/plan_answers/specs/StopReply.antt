@@ -11,10 +11,10 @@ use Rattle.stop_text.specs.StopRefusals.{HasNoFault, IsRefusedStops}
 use Rattle.stop_text.specs.declared.fault.StopTextFault.{StopTextFault}
 use Rattle.stop_placer.specs.StopAnswers.{HasNoStopPath}
 use Rattle.stop_answer.specs.AnswerText.{stop_plan_text, none_text}
-use Rattle.plan_answers.specs.declared.reply.Outcome.{Outcome}
-use Rattle.plan_answers.specs.declared.reply.Outcome.TheVariants.{Done, NothingFits, OverBudget}
+use Rattle.task_answers.specs.declared.reply.Outcome.{Outcome}
+use Rattle.task_answers.specs.declared.reply.Outcome.TheVariants.{Done, NothingFits, OverBudget}
 use Rattle.plan_answers.specs.ReplyText.{long_text, IsStopFaultLine}
-use Rattle.plan_answers.specs.Limits.{longest_task}
+use Rattle.task_answers.specs.Limits.{longest_task}
 
 -- the bytes of a file are not too many, and spell this lawful load of lawful tasks
 pub record IsStopsIn (bytes : List ℕ) (t : Stops) : Type 0 where

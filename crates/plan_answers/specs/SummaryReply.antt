@@ -6,9 +6,9 @@ use Rattle.certificate.specs.declared.parts.Certificate.{Certificate}
 use Rattle.cert_checker.specs.Claims.{HasNoPlacement}
 use Rattle.placer.specs.Near.{AreMoreThan, IsNear}
 use Rattle.generated_load.specs.Load.{generated_problem}
-use Rattle.plan_answers.specs.declared.reply.Outcome.{Outcome}
-use Rattle.plan_answers.specs.declared.reply.Outcome.TheVariants.{Done, OverBudget}
-use Rattle.plan_answers.specs.Limits.{usual_budget}
+use Rattle.task_answers.specs.declared.reply.Outcome.{Outcome}
+use Rattle.task_answers.specs.declared.reply.Outcome.TheVariants.{Done, OverBudget}
+use Rattle.task_answers.specs.Limits.{usual_budget}
 use Rattle.plan_answers.specs.ReplyText.{plan_summary, none_summary, budget_summary}
 use Rattle.plan_answers.specs.NearReply.{IsEvidence}
 

@@ -1,32 +1,20 @@
--- What is read, searched and judged of certificates of trees.
-use Rattle.std.specs.Prelude.{◌≡◌, ℕ, ◌<◌, ◌≤◌, min, List, length, Some, None}
+-- What is read and judged of certificates of trees, beside what is searched for.
+use Rattle.std.specs.Prelude.{ℕ, ◌<◌, ◌≤◌, List, length}
 use Rattle.hold_limits.specs.Problem.{Problem}
-use Rattle.hold_limits.specs.Placement.{IsBest}
 use Rattle.certificate.specs.Evidence.{claimed}
-use Rattle.cert_checker.specs.Claims.{HasNoPlacement}
-use Rattle.tree_certificate.specs.Listed.{ListedTrees}
-use Rattle.tree_certificate.specs.TreeText.{Spells}
-use Rattle.tree_certificate.specs.Refusals.{IsRefused}
 use Rattle.certificate.specs.declared.fault.CertFault.{CertFault}
-use Rattle.certificate.specs.declared.parts.Certificate.{Certificate}
+use Rattle.tree_certificate.specs.Listed.{ListedTrees}
+use Rattle.tree_certificate.specs.Refusals.{IsRefused}
 use Rattle.tree_checker.specs.GoodTrees.{IsGoodTrees}
 use Rattle.tree_checker.specs.FirstReason.{IsRejected}
 use Rattle.tree_checker.specs.declared.rejection.TreeRejection.{TreeRejection}
-use Rattle.placer.specs.Near.{AreMoreThan, IsNear}
-use Rattle.placer.specs.AnswerText.{evidence_text}
-use Rattle.plan_answers.specs.Limits.{greatest_budget}
+use Rattle.task_answers.specs.declared.reply.Outcome.{Outcome}
+use Rattle.task_answers.specs.declared.reply.Outcome.TheVariants.{Done, Rejected}
+use Rattle.task_answers.specs.Limits.{longest_certificate}
+use Rattle.plan_answers.specs.ReplyText.{long_text, IsCertificateFaultLine, IsTreeRejectionLine, good_text}
 use Rattle.plan_answers.specs.Claims.{IsTrueOf}
-use Rattle.plan_answers.specs.Kinds.{BeginsWithCuts}
-use Rattle.plan_answers.specs.NearReply.{IsEvidence, IsReadBack}
-use Rattle.plan_answers.specs.declared.reply.Outcome.{Outcome}
-use Rattle.plan_answers.specs.declared.reply.Outcome.TheVariants.{Done, NothingFits, Undecided, Rejected}
-use Rattle.plan_answers.specs.ReplyText.{long_text, IsCertificateFaultLine, IsTreeRejectionLine, good_text, tree_evidence_text, undecided_text}
-use Rattle.plan_answers.specs.Limits.{longest_certificate}
-
--- the bytes of a file are not too many, and spell this certificate of trees for the task
-pub record AreTreesIn (t : Problem) (bytes : List ℕ) (c : ListedTrees) : Type 0 where
-  pub short : length bytes ≤ longest_certificate
-  pub spelled : Spells t.hold.positions bytes c
+pub use Rattle.task_answers.specs.TreeReply.{AreTreesIn, AreReadBack, near_budget, IsTreePlacing}
+pub use Rattle.task_answers.specs.TreeReply.IsTreePlacing.{plan, nothing_fits, near_plan, nothing_near, undecided}
 
 -- the bytes of a file with a certificate of trees are refused with this line
 pub data IsTreeRefusal (t : Problem) (bytes : List ℕ) : List ℕ → Type 0 where
@@ -35,32 +23,6 @@ pub data IsTreeRefusal (t : Problem) (bytes : List ℕ) : List ℕ → Type 0 wh
   -- they spell no certificate of trees: this is their first fault
   no_trees : (fault : CertFault) (line : List ℕ) → length bytes ≤ longest_certificate → IsRefused t.hold.positions bytes fault
       → IsCertificateFaultLine fault line → IsTreeRefusal t bytes line
-
--- what is printed with the certificate fits a file, is its text, and begins with none of cuts
-pub record AreReadBack (t : Problem) (c : ListedTrees) : Type 0 where
-  pub spelled : AreTreesIn t (tree_evidence_text t c) c
-  pub kind : BeginsWithCuts (tree_evidence_text t c) → ⊥
-
--- the budget of the best-first search that is asked where so many looks at trees do not decide a task
-abbrev pub near_budget : ℕ → ℕ
-near_budget looks = min looks greatest_budget
-
--- the placement of a task by a search with so many looks: an outcome and its text
-pub data IsTreePlacing (t : Problem) (looks : ℕ) : Outcome → List ℕ → Type 0 where
-  -- the best plan, with a good certificate for it
-  plan : (path : List ℕ) (c : ListedTrees) → IsBest t path → claimed c.claim ≡ Some path → IsGoodTrees t c → AreReadBack t c
-      → IsTreePlacing t looks Done (tree_evidence_text t c)
-  -- nothing fits, with a good certificate for that
-  nothing_fits : (c : ListedTrees) → HasNoPlacement t → claimed c.claim ≡ None → IsGoodTrees t c → AreReadBack t c
-      → IsTreePlacing t looks NothingFits (tree_evidence_text t c)
-  -- the trees do not decide it, and the best-first search does: the best plan, with the near certificate
-  near_plan : (path : List ℕ) (c : Certificate) → IsBest t path → claimed c.claim ≡ Some path → IsEvidence t (near_budget looks) c
-      → IsReadBack t c → IsTreePlacing t looks Done (evidence_text t c)
-  -- or nothing fits, with the near certificate
-  nothing_near : (c : Certificate) → HasNoPlacement t → claimed c.claim ≡ None → IsEvidence t (near_budget looks) c
-      → IsReadBack t c → IsTreePlacing t looks NothingFits (evidence_text t c)
-  -- neither decides it, since more prefixes are near than the budget
-  undecided : AreMoreThan (IsNear t) (near_budget looks) → IsTreePlacing t looks Undecided (undecided_text looks)
 
 -- the judgement of a certificate of trees for a task
 pub data IsTreeJudgement (t : Problem) (c : ListedTrees) : Outcome → List ℕ → Type 0 where

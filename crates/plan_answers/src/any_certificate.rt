@@ -1,7 +1,7 @@
 //! Certificates of either kind, and which kind a text has.
 
 ghost use Rattle.std.specs.Prelude.{◌↔◌, IsTrue};
-ghost use Rattle.plan_answers.specs.Kinds.{BeginsWithCuts};
+ghost use Rattle.task_answers.specs.Kinds.{BeginsWithCuts};
 
 use certificate::Certificate;
 use text_lines::Lines;

@@ -3,27 +3,23 @@
 #![tactic(auto)]
 
 mod any_certificate;
-mod limits;
 mod near_jobs;
 mod priced_jobs;
-mod reply;
 mod reply_text;
-mod spelled;
 mod stop_jobs;
 mod summary_jobs;
 mod tree_jobs;
 
 pub use any_certificate::{AnyCertificate, begins_with_cuts};
-pub use limits::{
-    GREATEST_BUDGET, GREATEST_PRICED_BUDGET, LONGEST_CERTIFICATE, LONGEST_PRICED, LONGEST_TASK,
-    USUAL_BUDGET,
-};
-pub use near_jobs::{judgement, placement};
+pub use near_jobs::judgement;
 pub use priced_jobs::{judgement_of_prices, placing_with_prices};
-pub use reply::{Outcome, Reply};
 pub use reply_text::{
     line_of_certificate_fault, line_of_fault, line_of_stop_fault, two_word_line, word_line,
 };
 pub use stop_jobs::placing_over_sectors;
 pub use summary_jobs::summary;
-pub use tree_jobs::{judgement_of_any, placing_by_trees};
+pub use task_answers::{
+    GREATEST_BUDGET, GREATEST_PRICED_BUDGET, LONGEST_CERTIFICATE, LONGEST_PRICED, LONGEST_TASK,
+    Outcome, Reply, USUAL_BUDGET, placement, placing_by_trees,
+};
+pub use tree_jobs::judgement_of_any;

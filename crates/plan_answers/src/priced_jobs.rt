@@ -4,8 +4,6 @@ ghost use Rattle.std.specs.Prelude.{◌≡◌, IfOk};
 ghost use Rattle.plan_answers.specs.Outcomes.{priced_outcome};
 ghost use Rattle.plan_answers.specs.PricedReply.{IsPricedPlacing, IsPricedJudgement};
 
-use crate::near_jobs::read_names;
-use crate::reply::{Outcome, Reply};
 use crate::reply_text::{good_line, rejected_line};
 use base_words::NoMemory;
 use hold_limits::Task;
@@ -13,6 +11,7 @@ use priced_certificate::PricedCertificate;
 use priced_checker::{check_priced, priced_certificate_laws};
 use priced_placer::{PricedAnswer, place_priced, write_priced};
 use std::alloc::Global;
+use task_answers::{Outcome, Reply, read_names};
 
 fn outcome_of(answer: &PricedAnswer) -> Outcome
     ensures { result ≡ priced_outcome answer.now }

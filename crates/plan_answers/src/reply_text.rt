@@ -1,8 +1,8 @@
 //! The texts that the program prints beside the answers of the search.
 
-ghost use Rattle.std.specs.Prelude.{◌≡◌, ◌++◌, ◌∷◌, [], IfOk, OnOk};
+ghost use Rattle.std.specs.Prelude.{◌≡◌, ◌∷◌, [], IfOk};
 ghost use Rattle.plan_text.specs.PlanText.{one_line};
-ghost use Rattle.plan_answers.specs.ReplyText.{hold_fault_number, task_fault_number, stop_fault_number, input_text, number_line, good_text, rejected_at_text, rejected_text, undecided_text, IsFaultLine, IsStopFaultLine, IsCertificateFaultLine, IsTreeRejectionLine};
+ghost use Rattle.plan_answers.specs.ReplyText.{hold_fault_number, task_fault_number, stop_fault_number, input_text, good_text, rejected_at_text, rejected_text, IsFaultLine, IsStopFaultLine, IsCertificateFaultLine, IsTreeRejectionLine};
 ghost use Rattle.text_lines.specs.Lines.{text_of};
 ghost use Rattle.certificate.specs.CertificateText.{path_line};
 
@@ -14,6 +14,7 @@ use problem_text::TextFault;
 use std::alloc::Global;
 use stop_tasks::StopFault;
 use stop_text::StopTextFault;
+use task_answers::push_number_line;
 use telex::Builder;
 use tree_checker::TreeRejection;
 
@@ -36,16 +37,6 @@ pub fn two_word_line(alloc: Global, first: &[u8], second: &[u8]) -> Result<Vec<u
     out.word(second)?;
     out.end_line()?;
     Ok(out.finish())
-}
-
-/// Appends the line of a word and a number.
-pub fn push_number_line(out: &mut Builder, word: &[u8], number: u64) -> Result<(), NoMemory>
-    ensures { OnOk result (out.new ≡ out.old ++ text_of (number_line word.now number ∷ [])) }
-{
-    out.text(word)?;
-    out.text(b" ")?;
-    out.count(number)?;
-    out.end_line()
 }
 
 /// `INPUT KIND n`.
@@ -214,13 +205,4 @@ pub fn rejected_trees_line(alloc: Global, reason: TreeRejection) -> Result<Vec<u
         TreeRejection::WrongSibling(at) => rejected_at(alloc, 5, at),
         TreeRejection::NoMemory => Err(NoMemory),
     }
-}
-
-/// `UNDECIDED` with the number of looks.
-pub fn undecided_line(alloc: Global, looks: u32) -> Result<Vec<u8>, NoMemory>
-    ensures { IfOk result (λ text. text.items ≡ undecided_text looks) }
-{
-    let mut out = Builder::new(alloc);
-    push_number_line(&mut out, b"UNDECIDED", u64::from(looks))?;
-    Ok(out.finish())
 }

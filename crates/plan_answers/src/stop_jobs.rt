@@ -4,12 +4,12 @@ ghost use Rattle.std.specs.Prelude.{◌≡◌, IfOk};
 ghost use Rattle.plan_answers.specs.Outcomes.{stop_outcome};
 ghost use Rattle.plan_answers.specs.StopReply.{IsStopPlacing};
 
-use crate::reply::{Outcome, Reply};
 use base_words::NoMemory;
 use std::alloc::Global;
 use stop_answer::write_stop_answer;
 use stop_placer::{StopAnswer, place_stops};
 use stop_tasks::StopTask;
+use task_answers::{Outcome, Reply};
 
 fn outcome_of(answer: &StopAnswer) -> Outcome
     ensures { result ≡ stop_outcome answer.now }

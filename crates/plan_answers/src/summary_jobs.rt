@@ -10,10 +10,6 @@ ghost use Rattle.plan_answers.specs.ReplyText.{total_mass, load_lines, count_lin
 ghost use Rattle.plan_answers.specs.SummaryReply.{IsSummary};
 ghost use Rattle.text_lines.specs.Lines.{text_of};
 
-use crate::limits::USUAL_BUDGET;
-use crate::near_jobs::has_good_evidence;
-use crate::reply::{Outcome, Reply};
-use crate::reply_text::push_number_line;
 use base_words::NoMemory;
 use cert_checker::{NoPlan, Proven};
 use certificate::Certificate;
@@ -22,6 +18,7 @@ use hold_limits::{Item, Task};
 use placer::{Answer, Placing};
 use plan_text::push_balance;
 use std::alloc::Global;
+use task_answers::{Outcome, Reply, USUAL_BUDGET, has_good_evidence, push_number_line};
 use telex::Builder;
 
 /// The mass of some containers together, in kilograms.

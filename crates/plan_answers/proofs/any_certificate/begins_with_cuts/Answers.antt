@@ -4,7 +4,7 @@ use Rattle.std.proofs.lemmas.Slice.Eq.{bytes_eq-Decides}
 use Rattle.certificate.specs.CertificateText.{start_line as cuts_start}
 use Rattle.certificate.proofs.PathLemmas.{other_text}
 use Rattle.tree_certificate.specs.TreeText.{start_line as trees_start}
-use Rattle.plan_answers.proofs.AnyLemmas.{BeginsWithCuts-after, BeginsWithCuts-before, BeginsWithCuts-here, BeginsWithCuts-trees, BeginsWithCuts-none}
+use Rattle.task_answers.proofs.KindLemmas.{BeginsWithCuts-after, BeginsWithCuts-before, BeginsWithCuts-here, BeginsWithCuts-trees, BeginsWithCuts-none}
 use Rattle.plan_answers.proofs.any_certificate.begins_with_cuts.Goals as goal
 
 pub returns-then-eq : goal.returns-then-eq

@@ -1,5 +1,5 @@
 use Rattle.std.proofs.Common.{◌↔◌, length}
-use Rattle.plan_answers.specs.Kinds.{BeginsWithCuts}
+use Rattle.task_answers.specs.Kinds.{BeginsWithCuts}
 use Rattle.plan_answers.proofs.any_certificate.begins_with_cuts.Given as goal
 
 abbrev pub invariant-loop-line : goal.invariant-loop-line

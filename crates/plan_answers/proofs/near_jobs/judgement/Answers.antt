@@ -1,5 +1,5 @@
 use Rattle.std.proofs.Common.{refl, subst, sym, ap, ◌∙◌}
-use Rattle.plan_answers.specs.declared.reply.Outcome.TheVariants.{Done, Rejected}
+use Rattle.task_answers.specs.declared.reply.Outcome.TheVariants.{Done, Rejected}
 use Rattle.plan_answers.specs.NearReply.{IsJudgement}
 use Rattle.plan_answers.specs.NearReply.IsJudgement.{good, rejected}
 use Rattle.plan_answers.specs.ReplyText.{rejected_text}

@@ -2,7 +2,7 @@ use Rattle.std.proofs.Common.{refl, subst, sym}
 use Rattle.certificate.specs.Evidence.{claimed}
 use Rattle.priced_checker.specs.Good.{IsGoodPriced}
 use Rattle.hold_reach.proofs.ViableLemmas.{band-in_order}
-use Rattle.plan_answers.specs.declared.reply.Outcome.TheVariants.{Done, Rejected}
+use Rattle.task_answers.specs.declared.reply.Outcome.TheVariants.{Done, Rejected}
 use Rattle.plan_answers.specs.PricedReply.{IsPricedJudgement}
 use Rattle.plan_answers.specs.PricedReply.IsPricedJudgement.{good, rejected}
 use Rattle.plan_answers.proofs.JobLemmas.{true-claim}

@@ -1,6 +1,6 @@
 use Rattle.std.proofs.Common.{refl, subst, sym}
 use Rattle.tree_certificate.specs.Listed.{listed_trees}
-use Rattle.plan_answers.specs.declared.reply.Outcome.TheVariants.{Done}
+use Rattle.task_answers.specs.declared.reply.Outcome.TheVariants.{Done}
 use Rattle.plan_answers.specs.TreeReply.{IsTreeJudgement}
 use Rattle.plan_answers.specs.TreeReply.IsTreeJudgement.{good}
 use Rattle.certificate.specs.Evidence.{claimed}

@@ -1,8 +1,0 @@
-use Rattle.plan_answers.proofs.TreeJobLemmas.{best-replies, none-replies}
-use Rattle.plan_answers.proofs.tree_jobs.reply_of.Goals as goal
-
-pub returns-in-Best : goal.returns-in-Best
-returns-in-Best c = rw c.in-Best.is (best-replies c.in-Best.proven c.proven_plan.result c.proven_plan.ensures)
-
-pub returns-in-NoneFits : goal.returns-in-NoneFits
-returns-in-NoneFits c = rw c.in-NoneFits.is (none-replies c.in-NoneFits.no_plan c.proven_none.result c.proven_none.ensures)

@@ -1,0 +1,9 @@
+pub mod KindLemmas
+pub mod AnswerLines
+pub mod CutCounts
+pub mod ShortText
+pub mod ReadBack
+pub mod SpelledLemmas
+pub mod JobLemmas
+pub mod TreeJobLemmas
+pub mod BestLemmas
