@@ -134,6 +134,12 @@ budget_told body = do
   members ← object_of 1 body
   at (codes "budget") (whole 1 5000) members
 
+-- `{"looks":100000}`: how many times a search by trees may look, up to 1,000,000
+abbrev pub looks_told : Data → Option ℕ
+looks_told body = do
+  members ← object_of 1 body
+  at (codes "looks") (whole 1 1000000) members
+
 -- Texts -----------------------------------------------------------------------------------------
 
 -- what a body of JSON says
@@ -149,3 +155,11 @@ usual_budget = 2000
 abbrev pub budget_in : List ℕ → Option ℕ
 budget_in [] = Some usual_budget
 budget_in (c ∷ body) = told_in budget_told (c ∷ body)
+
+-- the looks where the body is empty
+abbrev pub usual_looks : ℕ
+usual_looks = 2000
+
+abbrev pub looks_in : List ℕ → Option ℕ
+looks_in [] = Some usual_looks
+looks_in (c ∷ body) = told_in looks_told (c ∷ body)

@@ -4,7 +4,7 @@ ghost use Rattle.std.specs.Prelude.{◌≡◌, ◌≤◌, None, Some, IfOk, IfSo
 ghost use Rattle.serde_json.specs.View.{view};
 ghost use Rattle.flight_state.specs.Legs.{IsSpelledLeg};
 ghost use Rattle.flight_row.specs.Spelled.{IsSpelledChange};
-ghost use Rattle.desk_bodies.specs.Bodies.{budget_in, budget_told, bulk_change_told, change_told, leg_told, told_in, zone_change_told};
+ghost use Rattle.desk_bodies.specs.Bodies.{budget_in, budget_told, bulk_change_told, change_told, leg_told, looks_in, looks_told, told_in, zone_change_told};
 
 use crate::fault::BodyFault;
 use crate::json::read_json;
@@ -16,6 +16,9 @@ use std::alloc::Global;
 
 /// How many prefixes a plan may look at where its request does not say.
 const USUAL_BUDGET: u32 = 2000;
+
+/// How many looks the search by trees may take where its request does not say.
+const USUAL_LOOKS: u32 = 2000;
 
 /// The leg of a flight that is to be opened.
 pub fn read_leg(alloc: Global, body: &[u8]) -> Result<Leg, BodyFault>
@@ -64,6 +67,26 @@ fn budget_told(value: &Value) -> Option<u32>
     ensures within { IfSome result (λ budget. (1 ≤ budget) × (budget ≤ 5000)) }
 {
     Object::of(value, 1)?.number("budget", 1, 5000)
+}
+
+/// How many looks the search by trees may take, 1 to 1,000,000; 2,000 where the body is empty.
+pub fn read_looks(alloc: Global, body: &[u8]) -> Result<u32, BodyFault>
+    ensures read { IfOk result (λ looks. looks_in body.now ≡ Some looks) }
+    ensures refused { result ≡ Err BodyFault.Form → looks_in body.now ≡ None }
+    ensures within { IfOk result (λ looks. (1 ≤ looks) × (looks ≤ 1000000)) }
+{
+    if body.is_empty() {
+        return Ok(USUAL_LOOKS);
+    }
+    let value = read_json(alloc, body)?;
+    looks_told(&value).ok_or(BodyFault::Form)
+}
+
+fn looks_told(value: &Value) -> Option<u32>
+    ensures value { result ≡ looks_told (view value.now) }
+    ensures within { IfSome result (λ looks. (1 ≤ looks) × (looks ≤ 1000000)) }
+{
+    Object::of(value, 1)?.number("looks", 1, 1_000_000)
 }
 
 /// A late change, of a zone or of a bulk position.

@@ -10,7 +10,7 @@ mod lists;
 mod object;
 mod values;
 
-pub use acts::{read_budget, read_change, read_leg};
+pub use acts::{read_budget, read_change, read_leg, read_looks};
 pub use containers::read_containers;
 pub use fault::BodyFault;
 pub use figures::{read_dry, read_fuel, read_limits};

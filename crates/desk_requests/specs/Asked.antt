@@ -9,12 +9,12 @@ use Rattle.flight_history.specs.declared.request.What.TheVariants as what
 use Rattle.desk_routes.specs.declared.route.Route.{Route}
 use Rattle.desk_routes.specs.declared.route.Route.TheVariants as route
 use Rattle.desk_routes.specs.Targets.{route_of, method_of, key_in, edition_in, IsEdition}
-use Rattle.desk_bodies.specs.Bodies.{told_in, leg_told, dry_told, fuel_told, limits_told, cabin_told, loose_told, change_told, budget_in}
+use Rattle.desk_bodies.specs.Bodies.{told_in, leg_told, dry_told, fuel_told, limits_told, cabin_told, loose_told, change_told, budget_in, looks_in}
 use Rattle.desk_bodies.specs.Containers.{ListsContainers}
 use Rattle.desk_answers.specs.declared.errors.PlainError.{PlainError}
 use Rattle.desk_answers.specs.declared.errors.PlainError.TheVariants as error
 use Rattle.desk_requests.specs.declared.wanted.Wanted.{Wanted}
-use Rattle.desk_requests.specs.declared.wanted.Wanted.TheVariants.{Open, Show, Set, Plan, Release, Late, Reopen, Depart}
+use Rattle.desk_requests.specs.declared.wanted.Wanted.TheVariants.{Open, Show, Set, Plan, Best, Take, Release, Late, Reopen, Depart}
 use Rattle.desk_requests.specs.declared.asked.Asked.{Asked}
 use Rattle.desk_requests.specs.declared.asked.Asked.TheVariants as asked
 
@@ -45,6 +45,8 @@ Wants route.Cabin body wanted = wanted ≡ part_wanted (option_map part.Cabin (t
 Wants route.Containers body wanted = ListsWanted body wanted
 Wants route.Loose body wanted = wanted ≡ part_wanted (option_map part.Loose (told_in loose_told body))
 Wants route.Plan body wanted = wanted ≡ option_map Plan (budget_in body)
+Wants route.Best body wanted = wanted ≡ option_map Best (looks_in body)
+Wants route.Task body wanted = wanted ≡ bare body Take
 Wants route.Release body wanted = wanted ≡ bare body Release
 Wants route.Late body wanted = wanted ≡ option_map Late (told_in change_told body)
 Wants route.Reopen body wanted = wanted ≡ bare body Reopen
@@ -83,6 +85,8 @@ asked_of key edition (Open leg) = asked.Entry (request.NewFlight leg)
 asked_of key edition (Show what) = asked.Entry (request.Show key what)
 asked_of key edition (Set told) = asked.Entry (request.Set key edition told)
 asked_of key edition (Plan budget) = asked.Plan key edition budget
+asked_of key edition (Best looks) = asked.Best key edition looks
+asked_of key edition Take = asked.Entry (request.Take key edition)
 asked_of key edition Release = asked.Entry (request.Release key edition)
 asked_of key edition (Late change) = asked.Entry (request.Late key edition change)
 asked_of key edition Reopen = asked.Entry (request.Reopen key edition)

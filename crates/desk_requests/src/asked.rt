@@ -26,6 +26,12 @@ pub enum Asked {
         edition: u32,
         budget: u32,
     },
+    /// A plan by trees: its task is taken, then planned with these looks, and then the plan is installed.
+    Best {
+        key: FlightKey,
+        edition: u32,
+        looks: u32,
+    },
 }
 
 /// Whether the path of the route names an edition.
@@ -80,6 +86,12 @@ fn asked_of(target: &[u8], edition: u32, wanted: Wanted) -> Option<Asked>
             edition,
             budget,
         }),
+        Wanted::Best(looks) => Some(Asked::Best {
+            key: key?,
+            edition,
+            looks,
+        }),
+        Wanted::Take => Some(Asked::Entry(Request::Take { key: key?, edition })),
         Wanted::Release => Some(Asked::Entry(Request::Release { key: key?, edition })),
         Wanted::Late(lmc) => Some(Asked::Entry(Request::Late {
             key: key?,

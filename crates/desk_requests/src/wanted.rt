@@ -7,7 +7,7 @@ ghost use Rattle.desk_requests.specs.Within.{IsWithin};
 
 use desk_bodies::{
     BodyFault, read_budget, read_cabin, read_change, read_containers, read_dry, read_fuel,
-    read_leg, read_limits, read_loose,
+    read_leg, read_limits, read_looks, read_loose,
 };
 use desk_routes::Route;
 use flight_history::{FigurePart, What};
@@ -25,6 +25,10 @@ pub enum Wanted {
     Set(FigurePart),
     /// A plan that looks at so many prefixes at most.
     Plan(u32),
+    /// A plan by trees, whose search takes so many looks at most.
+    Best(u32),
+    /// The task that a plan is made for.
+    Take,
     Release,
     Late(Lmc),
     Reopen,
@@ -59,6 +63,8 @@ pub fn read_wanted(alloc: Global, route: Route, body: &[u8]) -> Result<Wanted, B
         Route::Containers => Ok(Wanted::Set(FigurePart::Containers(read_containers(alloc, body)?))),
         Route::Loose => Ok(Wanted::Set(FigurePart::Loose(read_loose(alloc, body)?))),
         Route::Plan => Ok(Wanted::Plan(read_budget(alloc, body)?)),
+        Route::Best => Ok(Wanted::Best(read_looks(alloc, body)?)),
+        Route::Task => bare(body, Wanted::Take),
         Route::Release => bare(body, Wanted::Release),
         Route::Late => Ok(Wanted::Late(read_change(alloc, body)?)),
         Route::Reopen => bare(body, Wanted::Reopen),

@@ -1,5 +1,5 @@
 -- the router's rows, and what it finds
-use Rattle.std.proofs.Common.{◌≡◌, ◌∙◌, ℕ, ◌+◌, ◌<◌, ◌≤◌, List, [], ◌∷◌, length, drop, get_or, Result, Ok, Err, OnOk, Some, None, true, false, option_map, refl, sym, ap, subst, inl, inr, IsUtf8}
+use Rattle.std.proofs.Common.{◌≡◌, ◌∙◌, ℕ, ◌+◌, ◌<◌, ◌≤◌, List, [], length, drop, get_or, Result, Ok, Err, OnOk, Some, None, true, false, option_map, refl, sym, ap, subst, inl, inr, IsUtf8}
 use Rattle.std.specs.Result.{IfOk, OnErr, result_ok}
 use Rattle.std.specs.Str.{is_utf8}
 use Rattle.std.proofs.lemmas.Option.{same_Some}

@@ -6,7 +6,7 @@ use Rattle.matchit.specs.Route.{Scan, parse_route}
 use Rattle.matchit.specs.Router.{RouteOf, route_from}
 use Rattle.matchit.specs.declared.error.InsertError.{InsertError}
 use Rattle.desk_routes.specs.declared.route.Route.{Route}
-use Rattle.desk_routes.specs.declared.route.Route.TheVariants.{Flights, Flight, Dry, Fuel, Limits, Cabin, Containers, Loose, Plan, Release, Late, Reopen, Depart, Sheet, Ldm, Cpm}
+use Rattle.desk_routes.specs.declared.route.Route.TheVariants.{Flights, Flight, Dry, Fuel, Limits, Cabin, Containers, Loose, Plan, Best, Task, Release, Late, Reopen, Depart, Sheet, Ldm, Cpm}
 
 -- the path of a route, with names for the flight's key and for the edition
 abbrev pub path_of : Route → List ℕ
@@ -19,6 +19,8 @@ path_of Cabin = codes "/flights/{key}/cabin/{edition}"
 path_of Containers = codes "/flights/{key}/containers/{edition}"
 path_of Loose = codes "/flights/{key}/loose/{edition}"
 path_of Plan = codes "/flights/{key}/plan/{edition}"
+path_of Best = codes "/flights/{key}/best/{edition}"
+path_of Task = codes "/flights/{key}/task/{edition}"
 path_of Release = codes "/flights/{key}/release/{edition}"
 path_of Late = codes "/flights/{key}/lmc/{edition}"
 path_of Reopen = codes "/flights/{key}/reopen/{edition}"
@@ -30,7 +32,7 @@ path_of Cpm = codes "/flights/{key}/cpm"
 abbrev pub all_routes : List Route
 all_routes =
     Flights ∷ Flight ∷ Dry ∷ Fuel ∷ Limits ∷ Cabin ∷ Containers ∷ Loose
-    ∷ Plan ∷ Release ∷ Late ∷ Reopen ∷ Depart ∷ Sheet ∷ Ldm ∷ Cpm ∷ []
+    ∷ Plan ∷ Best ∷ Task ∷ Release ∷ Late ∷ Reopen ∷ Depart ∷ Sheet ∷ Ldm ∷ Cpm ∷ []
 
 -- Rows of a router ------------------------------------------------------------------------------
 

@@ -5,7 +5,7 @@ use Rattle.std.specs.Str.{is_utf8}
 use Rattle.matchit.specs.Seek.{first}
 use Rattle.mass_units.specs.Spelling.{number_text}
 use Rattle.desk_routes.specs.declared.route.Route.{Route}
-use Rattle.desk_routes.specs.declared.route.Route.TheVariants.{Flights, Flight, Dry, Fuel, Limits, Cabin, Containers, Loose, Plan, Release, Late, Reopen, Depart, Sheet, Ldm, Cpm}
+use Rattle.desk_routes.specs.declared.route.Route.TheVariants.{Flights, Flight, Dry, Fuel, Limits, Cabin, Containers, Loose, Plan, Best, Task, Release, Late, Reopen, Depart, Sheet, Ldm, Cpm}
 use Rattle.desk_routes.specs.Paths.{desk_rows}
 
 -- the target asks a question, which no route does
@@ -64,6 +64,8 @@ method_of Cabin = codes "PUT"
 method_of Containers = codes "PUT"
 method_of Loose = codes "PUT"
 method_of Plan = codes "POST"
+method_of Best = codes "POST"
+method_of Task = codes "GET"
 method_of Release = codes "POST"
 method_of Late = codes "POST"
 method_of Reopen = codes "POST"

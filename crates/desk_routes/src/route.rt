@@ -22,6 +22,10 @@ pub enum Route {
     Loose,
     /// A plan of the hold.
     Plan,
+    /// A plan of a full hold, which trees find.
+    Best,
+    /// The flight's task, which a plan is made for.
+    Task,
     /// The release of a flight, and its loadsheet.
     Release,
     /// A late change.
@@ -50,6 +54,8 @@ impl Route {
             Route::Containers => "/flights/{key}/containers/{edition}",
             Route::Loose => "/flights/{key}/loose/{edition}",
             Route::Plan => "/flights/{key}/plan/{edition}",
+            Route::Best => "/flights/{key}/best/{edition}",
+            Route::Task => "/flights/{key}/task/{edition}",
             Route::Release => "/flights/{key}/release/{edition}",
             Route::Late => "/flights/{key}/lmc/{edition}",
             Route::Reopen => "/flights/{key}/reopen/{edition}",
@@ -67,11 +73,12 @@ impl Route {
         match self {
             Route::Flights
             | Route::Plan
+            | Route::Best
             | Route::Release
             | Route::Late
             | Route::Reopen
             | Route::Depart => Method::POST,
-            Route::Flight | Route::Sheet | Route::Ldm | Route::Cpm => Method::GET,
+            Route::Flight | Route::Task | Route::Sheet | Route::Ldm | Route::Cpm => Method::GET,
             Route::Dry
             | Route::Fuel
             | Route::Limits

@@ -11,7 +11,7 @@ use std::alloc::Global;
 use std::str;
 
 /// All routes. None is found for a path of another, so their order does not matter.
-const ROUTES: [Route; 16] = [
+const ROUTES: [Route; 18] = [
     Route::Flights,
     Route::Flight,
     Route::Dry,
@@ -21,6 +21,8 @@ const ROUTES: [Route; 16] = [
     Route::Containers,
     Route::Loose,
     Route::Plan,
+    Route::Best,
+    Route::Task,
     Route::Release,
     Route::Late,
     Route::Reopen,

@@ -1,7 +1,7 @@
 // The bodies of the worked day, and bodies on both sides of each limit. What is read of a body is compared as a text.
 use desk_bodies::{
     BodyFault, read_budget, read_cabin, read_change, read_containers, read_dry, read_fuel,
-    read_leg, read_limits, read_loose,
+    read_leg, read_limits, read_looks, read_loose,
 };
 use flight_state::{Leg, Lmc};
 use hold_limits::Item;
@@ -210,6 +210,28 @@ fn budgets(rt: HostRuntime) -> Result<(), Fail> {
     ];
     for (body, due) in rows {
         check(rt.alloc(), read_budget(rt.alloc(), body), due)?;
+    }
+    Ok(())
+}
+
+#[test]
+fn looks(rt: HostRuntime) -> Result<(), Fail> {
+    let rows = [
+        (b"".as_slice(), "Ok(2000)"),
+        (br#"{"looks":1}"#, "Ok(1)"),
+        (br#"{"looks":1000000}"#, "Ok(1000000)"),
+        (br#"{"looks":0}"#, REFUSED),
+        (br#"{"looks":1000001}"#, REFUSED),
+        (br#"{"looks":-1}"#, REFUSED),
+        (br#"{"looks":"5"}"#, REFUSED),
+        (br#"{"budget":500}"#, REFUSED),
+        (br#"{"looks":5,"budget":500}"#, REFUSED),
+        (b"{}", REFUSED),
+        (b"5", REFUSED),
+        (b" ", REFUSED),
+    ];
+    for (body, due) in rows {
+        check(rt.alloc(), read_looks(rt.alloc(), body), due)?;
     }
     Ok(())
 }

@@ -20,6 +20,10 @@ PUT|/flights/XX210-12/containers/5|containers|id,mass~AKE10001XX,1000~AKE10002XX
 PUT|/flights/XX210-12/loose/6|loose|{"bulk":[["51",200,8]]}
 POST|/flights/XX210-12/plan/7|plan|
 POST|/flights/XX210-12/plan/7|plan|{"budget":500}
+POST|/flights/XX210-12/best/7|best|
+POST|/flights/XX210-12/best/7|best|{"looks":1}
+POST|/flights/XX210-12/best/7|best|{"looks":1000000}
+GET|/flights/XX210-12/task/7|take|
 POST|/flights/XX210-12/release/7|release|
 POST|/flights/XX210-12/lmc/7|late|{"zone":2,"adults":5,"children":0,"infants":0}
 POST|/flights/XX210-12/reopen/8|reopen|
@@ -29,20 +33,36 @@ GET|/flights/XX210-12/ldm|ldm|
 GET|/flights/XX210-12/cpm|cpm|"#;
 
 /// Requests that ask nothing, with the first reason against each.
-const REASONS: &[u8] = b"GET|/|no route|
+const REASONS: &[u8] = br#"GET|/|no route|
 GET|/flights/XX210-12?full|no route|
 POST|/flights/XX210-12/weight/1|no route|
+POST|/flights/XX210-12/best|no route|
+GET|/flights/XX210-12/task|no route|
 GET|/flights|method|
 get|/flights/XX210-12|method|
 POST|/flights/x/dry/0|method|
+GET|/flights/x/best/0|method|
+PUT|/flights/x/best/0|method|
+POST|/flights/x/task/0|method|x
 PUT|/flights/x/dry/0|edition|
 POST|/flights/x/release/01|edition|x
 POST|/flights/x/plan/4294967296|edition|x
+POST|/flights/x/best/0|edition|x
+GET|/flights/x/task/07|edition|x
 PUT|/flights/x/dry/1|body|
 GET|/flights/XX210-12|body|x
 POST|/flights/XX210-12/plan/7|body| 
+POST|/flights/XX210-12/plan/7|body|{"looks":500}
+POST|/flights/x/best/7|body|{"looks":0}
+POST|/flights/XX210-12/best/7|body|{"looks":1000001}
+POST|/flights/XX210-12/best/7|body|{"looks":5,"budget":500}
+POST|/flights/XX210-12/best/7|body|{"budget":500}
+POST|/flights/XX210-12/best/7|body|5
+GET|/flights/x/task/7|body|{"looks":500}
 GET|/flights/XX210-32|no flight|
-POST|/flights/x/depart/1|no flight|";
+POST|/flights/x/depart/1|no flight|
+POST|/flights/XX210-32/best/7|no flight|{"looks":500}
+GET|/flights/x/task/7|no flight|"#;
 
 fn part_word(part: &FigurePart) -> &'static str {
     match part {
@@ -70,6 +90,7 @@ fn request_word(request: &Request) -> &'static str {
         Request::Set { part, .. } => part_word(part),
         Request::Take { .. } => "take",
         Request::Install { .. } => "install",
+        Request::InstallBest { .. } => "install best",
         Request::Release { .. } => "release",
         Request::Late { .. } => "late",
         Request::Reopen { .. } => "reopen",
@@ -82,6 +103,7 @@ fn word_of(asked: &Asked) -> &'static str {
     match asked {
         Asked::Entry(request) => request_word(request),
         Asked::Plan { .. } => "plan",
+        Asked::Best { .. } => "best",
     }
 }
 
@@ -140,7 +162,7 @@ fn the_first_reason_is_named(rt: HostRuntime) -> Result<(), Fail> {
     Ok(())
 }
 
-/// The parts of a plan or a release that a request asks for: its key, its edition, and the budget of a plan.
+/// The parts of a plan, a task or a release that a request asks for: its key, its edition, and a plan's budget or looks.
 fn parts_of(alloc: Global, asked: &Asked) -> Result<String, Fail> {
     match asked {
         Asked::Plan {
@@ -151,6 +173,18 @@ fn parts_of(alloc: Global, asked: &Asked) -> Result<String, Fail> {
             let key = str::from_utf8(key.bytes())?;
             Ok(format!(in alloc; "plan {key} {edition} {budget}")?)
         }
+        Asked::Best {
+            key,
+            edition,
+            looks,
+        } => {
+            let key = str::from_utf8(key.bytes())?;
+            Ok(format!(in alloc; "best {key} {edition} {looks}")?)
+        }
+        Asked::Entry(Request::Take { key, edition }) => {
+            let key = str::from_utf8(key.bytes())?;
+            Ok(format!(in alloc; "take {key} {edition}")?)
+        }
         Asked::Entry(Request::Release { key, edition }) => {
             let key = str::from_utf8(key.bytes())?;
             Ok(format!(in alloc; "release {key} {edition}")?)
@@ -159,29 +193,47 @@ fn parts_of(alloc: Global, asked: &Asked) -> Result<String, Fail> {
     }
 }
 
-/// These parts of a request by `POST`.
-fn parts_posted(alloc: Global, target: &str, body: &str) -> Result<String, Fail> {
+/// These parts of a request.
+fn parts_asked(alloc: Global, method: &str, target: &str, body: &str) -> Result<String, Fail> {
     let router = DeskRouter::new(alloc)?;
-    let (target, body) = (target.as_bytes(), body.as_bytes());
-    parts_of(alloc, &read_request(alloc, &router, b"POST", target, body)?)
+    let (method, target, body) = (method.as_bytes(), target.as_bytes(), body.as_bytes());
+    parts_of(alloc, &read_request(alloc, &router, method, target, body)?)
 }
 
 #[test]
 fn the_target_and_the_body_tell_the_parts(rt: HostRuntime) -> Result<(), Fail> {
     let rows = [
         (
+            "POST",
             "/flights/XX210-12/plan/7",
             r#"{"budget":500}"#,
             "plan XX210-12 7 500",
         ),
         (
+            "POST",
+            "/flights/XX210-12/best/7",
+            r#"{"looks":100000}"#,
+            "best XX210-12 7 100000",
+        ),
+        (
+            "POST",
+            "/flights/YY7A-31/best/4294967295",
+            "",
+            "best YY7A-31 4294967295 2000",
+        ),
+        ("GET", "/flights/XX210-12/task/7", "", "take XX210-12 7"),
+        (
+            "POST",
             "/flights/YY7A-31/release/4294967295",
             "",
             "release YY7A-31 4294967295",
         ),
     ];
-    for (target, body, due) in rows {
-        assert_eq!(rt; parts_posted(rt.alloc(), target, body)?.as_str(), due);
+    for (method, target, body, due) in rows {
+        assert_eq!(rt;
+            parts_asked(rt.alloc(), method, target, body)?.as_str(),
+            due
+        );
     }
     Ok(())
 }

@@ -14,6 +14,8 @@ const TARGETS: &[u8] = b"/flights Flights
 /flights/XX210-12/containers/7 Containers
 /flights/XX210-12/loose/7 Loose
 /flights/XX210-12/plan/7 Plan
+/flights/XX210-12/best/7 Best
+/flights/XX210-12/task/7 Task
 /flights/XX210-12/release/7 Release
 /flights/XX210-12/lmc/7 Late
 /flights/XX210-12/reopen/7 Reopen
@@ -26,6 +28,9 @@ const TARGETS: &[u8] = b"/flights Flights
 /flights/XX210-12/dry/7?x None
 /flights/XX210-12/weight/7 None
 /flights/XX210-12/dry None
+/flights/XX210-12/best None
+/flights/XX210-12/task None
+/flights/XX210-12/task/7/8 None
 * None";
 
 fn name_of(route: Option<Route>) -> &'static str {
@@ -39,6 +44,8 @@ fn name_of(route: Option<Route>) -> &'static str {
         Some(Route::Containers) => "Containers",
         Some(Route::Loose) => "Loose",
         Some(Route::Plan) => "Plan",
+        Some(Route::Best) => "Best",
+        Some(Route::Task) => "Task",
         Some(Route::Release) => "Release",
         Some(Route::Late) => "Late",
         Some(Route::Reopen) => "Reopen",
