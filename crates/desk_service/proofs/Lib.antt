@@ -1,4 +1,5 @@
 pub mod Places
+pub mod Plans
 pub mod Turns
 pub mod Serving
 pub mod Statuses

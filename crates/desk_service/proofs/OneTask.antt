@@ -36,15 +36,20 @@ use Rattle.desk_requests.specs.declared.wanted.Wanted.{Wanted}
 use Rattle.desk_requests.specs.declared.wanted.Wanted.TheVariants as wanted
 use Rattle.desk_routes.specs.declared.route.Route.{Route}
 use Rattle.desk_routes.specs.Targets.{route_of}
+use Rattle.desk_service.specs.declared.searches.Search.{Search}
+use Rattle.desk_service.specs.declared.searches.Search.TheVariants.{Within, ByTrees}
 use Rattle.desk_service.specs.Turns.{Setting, Placed, IsMade}
-use Rattle.desk_service.specs.Exchanges.{AnswersTask, AnswersTaken, InstallsPlan, Answers, AnswersLate, Exchange, IsRead, IsServed, IsLate, LacksEntry}
+use Rattle.desk_service.specs.Searches.{install_of}
+use Rattle.desk_service.specs.Exchanges.{AnswersTask, AnswersTaken, AnswersPlan, InstallsPlan, Answers, AnswersLate, Exchange, IsRead, IsServed, IsLate, LacksEntry, LacksPlan}
 use Rattle.desk_service.specs.Laws.{IsForItsTask, NeverOtherTask}
 use Rattle.desk_service.specs.Service.{entries_of}
+use Rattle.desk_service.proofs.Plans.{task_of, finds_best, has_plan, key_of_install, writes_path}
 use Rattle.desk_service.proofs.PlansStay.{WasCurrent, current, first_later, still, task_at}
 use Rattle.desk_service.proofs.Refusals.{IsOwn, no_way, current_clear, first_passed, verdict_clear}
 
 abbrev is_install : Request → Bool
 is_install (request.Install key edition plan) = true
+is_install (request.InstallBest key edition plan) = true
 is_install _ = false
 
 own_act : (asks : Request) (same : Bool) (x : Act) → is_install asks ≡ false → IsActWith same asks x → IsOwn true x
@@ -52,6 +57,7 @@ own_act (request.NewFlight leg) same x not_install is = subst (IsOwn true) (sym 
 own_act (request.Set key edition told) same x not_install is = subst (IsOwn true) (sym is) tt
 own_act (request.Take key edition) same x not_install is = subst (IsOwn true) (sym is) tt
 own_act (request.Install key edition plan) same x not_install is = absurd (no_way not_install)
+own_act (request.InstallBest key edition plan) same x not_install is = absurd (no_way not_install)
 own_act (request.Release key edition) same x not_install is = subst (IsOwn true) (sym is) tt
 own_act (request.Late key edition change) same x not_install is = subst (IsOwn true) (sym is) tt
 own_act (request.Reopen key edition) same x not_install is = subst (IsOwn true) (sym is) tt
@@ -104,29 +110,33 @@ module _ (s : Setting) (desk : ℕ) (history : List Entry) where
   own_install : (full : Bool) (st : Option FlightState) (edition : ℕ) (path : ArrayVec ℕ) (same : Bool) → same ≡ true → IsVerdict s.fleet full st (act.Install edition path same) (Some no.OtherTask) → ⊥
   own_install full st edition path same is verdict = verdict_clear true s.fleet full st (act.Install edition path same) (rw is refl) verdict
 
-  plan_clear : (key : List ℕ) (edition budget : ℕ) (entries : List Placed) (answer : Answer) (taken : AnswersTaken s desk history key edition budget entries answer)
-      (plan : InstallsPlan s desk history key edition budget taken.task taken.rest answer) → IsForItsTask s history plan.installed
-  plan_clear key edition budget entries answer taken plan before stands judged judgement j of_made is verdict =
+  plan_clear : (key : List ℕ) (edition : ℕ) (search : Search) (entries : List Placed) (answer : Answer) (taken : AnswersTaken s desk history key edition search entries answer)
+      (plan : InstallsPlan s desk history key edition search taken.task taken.rest answer) → IsForItsTask s history plan.installed
+  plan_clear key edition search entries answer taken plan before stands judged judgement j of_made is verdict =
       let turn = plan.turn.turn in
-      let asks = turn.of_act.asks in
+      let found = plan.found.plan in
+      let wrote = writes_path key edition found turn.of_act.same turn.j.entry.act turn.of_act.asks in
+      let key_is : turn.j.entry.key ≡ key = turn.of_key ∙ key_of_install key edition found in
       let here = same_before before plan.turn.before stands.after plan.turn.stands.after plan.installed.1 plan.installed.1 (sym stands.at ∙ plan.turn.stands.at) (sym stands.long ∙ plan.turn.stands.long) in
       let ours : IsJudgement s.fleet s.opening plan.turn.before judged = subst (λ (es : List Entry). IsJudgement s.fleet s.opening es judged) here judgement in
       let one : j.entry ≡ turn.j.entry = of_made ∙ turn.of_entry in
-      let own : j.entry.key ≡ key = ap (λ (e : Entry). e.key) one ∙ turn.of_key in
-      let x : j.entry.act ≡ act.Install edition asks.0 turn.of_act.same = ap (λ (e : Entry). e.act) one ∙ asks.3 in
+      let own : j.entry.key ≡ key = ap (λ (e : Entry). e.key) one ∙ key_is in
+      let x : j.entry.act ≡ act.Install edition wrote.path turn.of_act.same = ap (λ (e : Entry). e.act) one ∙ wrote.is in
       let said = as_verdict j.entry.outcome s.fleet s.opening judged j is verdict in
       let here_said = subst (λ (k : List ℕ). IsVerdict s.fleet (is_full s.opening judged) (stand judged k) j.entry.act (Some no.OtherTask)) own said in
       let install_said = subst (λ (y : Act). IsVerdict s.fleet (is_full s.opening judged) (stand judged key) y (Some no.OtherTask)) x here_said in
-      let was = other_current (is_full s.opening judged) (stand judged key) edition asks.0 turn.of_act.same install_said in
-      let st = still s desk history key edition budget entries taken.taken plan.installed taken.task plan.proven plan.reply taken.take plan.turn
+      let was = other_current (is_full s.opening judged) (stand judged key) edition wrote.path turn.of_act.same install_said in
+      let st = still s desk history key edition taken.taken plan.installed taken.task (install_of key edition found) plan.reply taken.take plan.turn
       (first_later taken.taken plan.installed taken.rest taken.later plan.rest_is) judged ours in
-      let at = task_at s desk history key edition budget entries taken.task judged st was in
+      let at = task_at s desk history key edition taken.task judged st was in
       let acts = one-acts task-laws s.fleet s.opening plan.turn.before turn.history judged key turn.judgement ours in
       let stood : stand turn.history turn.j.entry.key ≡ Some at.flight =
-      ap (stand turn.history) turn.of_key ∙ (ap (standing s.fleet (flight_at s.opening key)) acts ∙ at.stands) in
-      let has : IsTaskFor s.fleet at.flight plan.proven.task = subst (λ (t : Problem). IsTaskFor s.fleet at.flight t) (sym plan.found.best) at.of_figures in
-      let same : turn.of_act.same ≡ true = turn.of_act.exactly.1 (subst (λ (o : Option FlightState). HasPlanOf s.fleet o (request.Install key edition plan.proven)) (sym stood) has) in
-      own_install (is_full s.opening judged) (stand judged key) edition asks.0 turn.of_act.same same install_said
+      ap (stand turn.history) key_is ∙ (ap (standing s.fleet (flight_at s.opening key)) acts ∙ at.stands) in
+      let best = finds_best search taken.task found plan.found.text plan.found.finds in
+      let has : IsTaskFor s.fleet at.flight (task_of found) = subst (λ (t : Problem). IsTaskFor s.fleet at.flight t) (sym best.own) at.of_figures in
+      let same : turn.of_act.same ≡ true = turn.of_act.exactly.1
+      (subst (λ (o : Option FlightState). HasPlanOf s.fleet o (install_of key edition found)) (sym stood) (has_plan s.fleet at.flight key edition found has)) in
+      own_install (is_full s.opening judged) (stand judged key) edition wrote.path turn.of_act.same same install_said
 
   -- Exchanges ----------------------------------------------------------------------------------------------------
 
@@ -142,15 +152,21 @@ module _ (s : Setting) (desk : ℕ) (history : List Entry) where
   both_clear : (entries rest : List Placed) (made : Placed) → entries ≡ made ∷ rest → IsForItsTask s history made → AreClear rest → AreClear entries
   both_clear entries rest made is clear more = All-same (IsForItsTask s history) entries (made ∷ rest) is (All-cons (IsForItsTask s history) made rest clear more)
 
-  rest_clear : (key : List ℕ) (edition budget : ℕ) (entries : List Placed) (answer : Answer) (a : AnswersTaken s desk history key edition budget entries answer)
-      → AnswersTask s desk history key edition budget a.task a.rest answer → AreClear a.rest
-  rest_clear key edition budget entries answer a (inl out) = none_clear a.rest out.0
-  rest_clear key edition budget entries answer a (inr (inl told)) = none_clear a.rest told.0
-  rest_clear key edition budget entries answer a (inr (inr plan)) = one_clear a.rest plan.installed plan.rest_is (plan_clear key edition budget entries answer a plan)
+  rest_clear : (key : List ℕ) (edition : ℕ) (search : Search) (entries : List Placed) (answer : Answer) (a : AnswersTaken s desk history key edition search entries answer)
+      → AnswersTask s desk history key edition search a.task a.rest answer → AreClear a.rest
+  rest_clear key edition search entries answer a (inl out) = none_clear a.rest out.0
+  rest_clear key edition search entries answer a (inr (inl told)) = none_clear a.rest told.0
+  rest_clear key edition search entries answer a (inr (inr plan)) = one_clear a.rest plan.installed plan.rest_is (plan_clear key edition search entries answer a plan)
+
+  searched_clear : (key : List ℕ) (edition : ℕ) (search : Search) (entries : List Placed) (answer : Answer) → AnswersPlan s desk history key edition search entries answer → AreClear entries
+  searched_clear key edition search entries answer (inl a) = one_clear entries a.made a.entries_are (other_clear (request.Take key edition) a.made a.reply a.turn refl)
+  searched_clear key edition search entries answer (inr a) =
+      both_clear entries a.rest a.taken a.entries_are (other_clear (request.Take key edition) a.taken (says.Task a.task) a.take refl) (rest_clear key edition search entries answer a a.planned)
 
   abbrev installs : Asked → Bool
   installs (asked.Entry asks) = is_install asks
   installs (asked.Plan key edition budget) = false
+  installs (asked.Best key edition looks) = false
 
   abbrev installs_if_asked : Result Asked PlainError → Bool
   installs_if_asked (Ok it) = installs it
@@ -161,6 +177,8 @@ module _ (s : Setting) (desk : ℕ) (history : List Entry) where
   asked_clear key edition (wanted.Show what) = refl
   asked_clear key edition (wanted.Set told) = refl
   asked_clear key edition (wanted.Plan budget) = refl
+  asked_clear key edition (wanted.Best looks) = refl
+  asked_clear key edition wanted.Take = refl
   asked_clear key edition wanted.Release = refl
   asked_clear key edition (wanted.Late change) = refl
   asked_clear key edition wanted.Reopen = refl
@@ -178,14 +196,17 @@ module _ (s : Setting) (desk : ℕ) (history : List Entry) where
   served_by : (heard : http.Request) (it : Result Asked PlainError) (entries : List Placed) (answer : Answer) → IsRead heard it → Answers s desk history it entries answer → AreClear entries
   served_by heard (Err error) entries answer read is = none_clear entries is.0
   served_by heard (Ok (asked.Entry asks)) entries answer read a = one_clear entries a.made a.entries_are (other_clear asks a.made a.reply a.turn (read_clear heard (asked.Entry asks) read))
-  served_by heard (Ok (asked.Plan key edition budget)) entries answer read (inl a) = one_clear entries a.made a.entries_are (other_clear (request.Take key edition) a.made a.reply a.turn refl)
-  served_by heard (Ok (asked.Plan key edition budget)) entries answer read (inr a) =
-      both_clear entries a.rest a.taken a.entries_are (other_clear (request.Take key edition) a.taken (says.Task a.task) a.take refl) (rest_clear key edition budget entries answer a a.planned)
+  served_by heard (Ok (asked.Plan key edition budget)) entries answer read a = searched_clear key edition (Within budget) entries answer a
+  served_by heard (Ok (asked.Best key edition looks)) entries answer read a = searched_clear key edition (ByTrees looks) entries answer a
+
+  lacking_plan : (key : List ℕ) (edition : ℕ) (search : Search) (entries : List Placed) → LacksPlan s desk history key edition search entries → AreClear entries
+  lacking_plan key edition search entries (inl none) = none_clear entries none
+  lacking_plan key edition search entries (inr l) = one_clear entries l.0 l.4 (other_clear (request.Take key edition) l.0 (says.Task l.1) l.2 refl)
 
   lacking : (it : Asked) (entries : List Placed) → LacksEntry s desk history it entries → AreClear entries
   lacking (asked.Entry asks) entries none = none_clear entries none
-  lacking (asked.Plan key edition budget) entries (inl none) = none_clear entries none
-  lacking (asked.Plan key edition budget) entries (inr l) = one_clear entries l.0 l.5 (other_clear (request.Take key edition) l.0 (says.Task l.1) l.3 refl)
+  lacking (asked.Plan key edition budget) entries lacks = lacking_plan key edition (Within budget) entries lacks
+  lacking (asked.Best key edition looks) entries lacks = lacking_plan key edition (ByTrees looks) entries lacks
 
   late_by : (it : Result Asked PlainError) (entries : List Placed) (answer : Answer) → AnswersLate s desk history it entries answer → AreClear entries
   late_by (Err error) entries answer is = none_clear entries is.0

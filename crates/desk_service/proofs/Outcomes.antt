@@ -1,26 +1,25 @@
 -- what the calls of one request make of the history
-use Rattle.std.proofs.Common.{◌≡◌, ◌⊎◌, ◌+◌, ◌<◌, ◌≤◌, ℕ, true, false, List, [], ◌∷◌, ◌++◌, length, Result, Ok, Err, refl, sym, ap, ◌∙◌, arith, append-nil, append_assoc, length-append, inl, inr}
+use Rattle.std.proofs.Common.{◌≡◌, ◌⊎◌, ◌+◌, ◌<◌, ◌≤◌, ℕ, true, false, List, [], ◌∷◌, ◌++◌, length, None, Some, Result, Ok, Err, refl, sym, ap, ◌∙◌, arith, append-nil, append_assoc, length-append, inl, inr}
 use Rattle.std.specs.List.{All}
 use Rattle.std.proofs.lemmas.List.Elements.{All-weaker}
 use Rattle.hold_limits.specs.Problem.{Problem}
-use Rattle.cert_checker.specs.Certified.{Certified}
-use Rattle.placer.specs.Answers.{IfBest, IsAnswerTo}
-use Rattle.placer.specs.AnswerText.{answer_text}
-use Rattle.placer.specs.declared.answer.Answer.{Answer as Found}
-use Rattle.placer.specs.declared.answer.Answer.TheVariants.{Best}
 use Rattle.flight_history.specs.declared.entry.Entry.{Entry}
 use Rattle.flight_history.specs.declared.reply.Reply.{Reply}
 use Rattle.flight_history.specs.declared.reply.Reply.TheVariants as says
 use Rattle.flight_history.specs.declared.request.Request.{Request}
-use Rattle.flight_history.specs.declared.request.Request.TheVariants.{Take, Install}
+use Rattle.flight_history.specs.declared.request.Request.TheVariants.{Take}
 use Rattle.desk_answers.specs.Answers.{IsAnswered, answer_to, answered, error_answer, text_answer}
 use Rattle.desk_answers.specs.declared.answer.Answer.{Answer}
 use Rattle.desk_answers.specs.declared.errors.PlainError.{PlainError}
 use Rattle.desk_answers.specs.declared.errors.PlainError.TheVariants.{Full, Memory}
 use Rattle.desk_requests.specs.declared.asked.Asked.TheVariants as asked
+use Rattle.desk_service.specs.declared.searches.FoundPlan.{FoundPlan}
+use Rattle.desk_service.specs.declared.searches.Search.{Search}
+use Rattle.desk_service.specs.declared.searches.Search.TheVariants.{Within, ByTrees}
 use Rattle.desk_service.specs.Places.{GoesOn}
 use Rattle.desk_service.specs.Turns.{Setting, Placed, placed, IsMade, Calls}
-use Rattle.desk_service.specs.Exchanges.{IsDue, IsFound, document_of, AnswersTurn, AnswersInstall, AnswersTask, LacksRoom, Answers, AnswersLate}
+use Rattle.desk_service.specs.Searches.{Finds, install_of}
+use Rattle.desk_service.specs.Exchanges.{IsDue, asks_plan, document_of, AnswersTurn, AnswersInstall, AnswersTask, AnswersPlan, LacksPlan, LacksRoom, Answers, AnswersLate}
 use Rattle.desk_service.specs.Service.{Answered, Planned}
 use Rattle.desk_service.proofs.Places.{same_history, goes_on, placed_behind}
 use Rattle.desk_service.proofs.Turns as turns
@@ -34,6 +33,18 @@ is_due due result (inr is) = inr is
 -- what would be an error is not so
 pub not_error : {A : Type 0} → (A → false ≡ true) → A → ⊥
 not_error h a = let e = h a in grind arith
+
+module _ (s : Setting) (desk : ℕ) where
+  -- the answers to what asks for a plan are those to the plan
+  plan_asked : (key : List ℕ) (edition : ℕ) (search : Search) (history : List Entry) (entries : List Placed) (answer : Answer)
+      → AnswersPlan s desk history key edition search entries answer → Answers s desk history (Ok (asks_plan key edition search)) entries answer
+  plan_asked key edition (Within budget) history entries answer is = is
+  plan_asked key edition (ByTrees looks) history entries answer is = is
+
+  plan_late : (key : List ℕ) (edition : ℕ) (search : Search) (history : List Entry) (entries : List Placed) (answer : Answer)
+      → LacksPlan s desk history key edition search entries → answer ≡ error_answer Full → AnswersLate s desk history (Ok (asks_plan key edition search)) entries answer
+  plan_late key edition (Within budget) history entries answer lacks is = (lacks, is)
+  plan_late key edition (ByTrees looks) history entries answer lacks is = (lacks, is)
 
 module _ (s : Setting) (desk : ℕ) (full full' : Type 0) where
   -- an error before the turn makes no entry
@@ -77,30 +88,30 @@ module _ (s : Setting) (desk : ℕ) (full full' : Type 0) where
   }
 
   -- a plan whose task was not given
-  pub no_task : (key : List ℕ) (edition budget : ℕ) (reply : Reply) (answer : Answer) (seen seen' : List Entry) → (full → ⊥) → Calls s desk (Take key edition) reply seen seen'
-      → IsDue (answer_to (document_of (Take key edition)) reply) answer → Answered s desk full full' (Ok (asked.Plan key edition budget)) answer seen seen'
-  no_task key edition budget reply answer seen seen' free c due = record {
+  pub no_task : (key : List ℕ) (edition : ℕ) (search : Search) (reply : Reply) (answer : Answer) (seen seen' : List Entry) → (full → ⊥) → Calls s desk (Take key edition) reply seen seen'
+      → IsDue (answer_to (document_of (Take key edition)) reply) answer → Answered s desk full full' (Ok (asks_plan key edition search)) answer seen seen'
+  no_task key edition search reply answer seen seen' free c due = record {
     entries = turns.made s desk (Take key edition) reply seen seen' c ∷ [];
     on = turns.call_on s desk (Take key edition) reply seen seen' c;
     own = turns.call_own s desk (Take key edition) reply seen seen' c;
-    is = inl (inl (turn_answered (Take key edition) reply answer seen seen' c due));
+    is = inl (plan_asked s desk key edition search seen' _ answer (inl (turn_answered (Take key edition) reply answer seen seen' c due)));
     stuck = λ f. absurd (free f);
   }
 
-  pub no_room_to_take : (key : List ℕ) (edition budget : ℕ) (seen seen' : List Entry) → seen' ≡ seen → full' → Answered s desk full full' (Ok (asked.Plan key edition budget)) (error_answer Full) seen seen'
-  no_room_to_take key edition budget seen seen' same f = record {
+  pub no_room_to_take : (key : List ℕ) (edition : ℕ) (search : Search) (seen seen' : List Entry) → seen' ≡ seen → full' → Answered s desk full full' (Ok (asks_plan key edition search)) (error_answer Full) seen seen'
+  no_room_to_take key edition search seen seen' same f = record {
     entries = [];
     on = same_history seen seen' same;
     own = ap (placed desk) same ∙ sym (append-nil (placed desk seen));
-    is = inr (f, (inl refl, refl));
-    stuck = λ _. (inl refl, refl);
+    is = inr (f, plan_late s desk key edition search seen' [] (error_answer Full) (inl refl) refl);
+    stuck = λ _. plan_late s desk key edition search seen' [] (error_answer Full) (inl refl) refl;
   }
 
 -- What follows the taking of a task -----------------------------------------------------------------
 
-module _ (s : Setting) (desk : ℕ) (full : Type 0) (key : List ℕ) (edition budget : ℕ) (task : Problem) where
+module _ (s : Setting) (desk : ℕ) (full : Type 0) (key : List ℕ) (edition : ℕ) (search : Search) (task : Problem) where
   -- nothing is asked
-  pub memory_out : (seen : List Entry) → Planned s desk full key edition budget task (error_answer Memory) seen seen
+  pub memory_out : (seen : List Entry) → Planned s desk full key edition search task (error_answer Memory) seen seen
   memory_out seen = record {
     rest = [];
     on = same_history seen seen refl;
@@ -108,27 +119,25 @@ module _ (s : Setting) (desk : ℕ) (full : Type 0) (key : List ℕ) (edition bu
     is = inl (inl (refl, refl));
   }
 
-  pub no_plan : (found : Found) (answer : Answer) (seen : List Entry) → IsAnswerTo task budget found → IfBest found (λ _. ⊥) → answer ≡ text_answer (answer_text task found)
-      → Planned s desk full key edition budget task answer seen seen
-  no_plan found answer seen answers none told = record {
+  pub no_plan : (text : List ℕ) (answer : Answer) (seen : List Entry) → Finds search task None text → answer ≡ text_answer text → Planned s desk full key edition search task answer seen seen
+  no_plan text answer seen finds told = record {
     rest = [];
     on = same_history seen seen refl;
     own = sym (append-nil (placed desk seen));
-    is = inl (inr (inl (refl, record { found = found; answers = answers; none = none; told = told })));
+    is = inl (inr (inl (refl, record { text = text; finds = finds; told = told })));
   }
 
   -- the plan was asked to be installed
-  pub asked_install : (proven : Certified) (reply : Reply) (answer : Answer) (seen seen' : List Entry) → IsFound task budget proven → Calls s desk (Install key edition proven) reply seen seen'
-      → AnswersInstall (text_answer (answer_text task (Best proven))) reply answer → Planned s desk full key edition budget task answer seen seen'
-  asked_install proven reply answer seen seen' found c is =
-      let request = Install key edition proven in
+  pub asked_install : (plan : FoundPlan) (text : List ℕ) (reply : Reply) (answer : Answer) (seen seen' : List Entry) → Finds search task (Some plan) text
+      → Calls s desk (install_of key edition plan) reply seen seen' → AnswersInstall (text_answer text) reply answer → Planned s desk full key edition search task answer seen seen'
+  asked_install plan text reply answer seen seen' finds c is =
+      let request = install_of key edition plan in
       record {
         rest = turns.made s desk request reply seen seen' c ∷ [];
         on = turns.call_on s desk request reply seen seen' c;
         own = turns.call_own s desk request reply seen seen' c;
         is = inl (inr (inr record {
-          proven = proven;
-          found = found;
+          found = record { plan = plan; text = text; finds = finds };
           installed = turns.made s desk request reply seen seen' c;
           reply = reply;
           turn = turns.call_made s desk request reply seen seen' c;
@@ -137,16 +146,17 @@ module _ (s : Setting) (desk : ℕ) (full : Type 0) (key : List ℕ) (edition bu
         }));
       }
 
-  pub no_room_to_install : (proven : Certified) (seen seen' : List Entry) → IsFound task budget proven → seen' ≡ seen → full → Planned s desk full key edition budget task (error_answer Full) seen seen'
-  no_room_to_install proven seen seen' found same f = record {
+  pub no_room_to_install : (plan : FoundPlan) (text : List ℕ) (seen seen' : List Entry) → Finds search task (Some plan) text → seen' ≡ seen → full
+      → Planned s desk full key edition search task (error_answer Full) seen seen'
+  no_room_to_install plan text seen seen' finds same f = record {
     rest = [];
     on = same_history seen seen' same;
     own = ap (placed desk) same ∙ sym (append-nil (placed desk seen));
-    is = inr (f, ((proven, found), refl, refl));
+    is = inr (f, (record { plan = plan; text = text; finds = finds }, refl, refl));
   }
 
 -- the answer to a plan whose task was taken
-module _ (s : Setting) (desk : ℕ) (full full' : Type 0) (key : List ℕ) (edition budget : ℕ) (task : Problem) (answer : Answer) (seen mid seen' : List Entry)
+module _ (s : Setting) (desk : ℕ) (full full' : Type 0) (key : List ℕ) (edition : ℕ) (search : Search) (task : Problem) (answer : Answer) (seen mid seen' : List Entry)
     (c : Calls s desk (Take key edition) (says.Task task) seen mid) where
   abbrev taken : Placed
   taken = turns.made s desk (Take key edition) (says.Task task) seen mid c
@@ -161,15 +171,17 @@ module _ (s : Setting) (desk : ℕ) (full full' : Type 0) (key : List ℕ) (edit
       All-weaker (λ (one : Placed). length mid ≤ one.0) (λ (one : Placed). taken.0 < one.0) (λ one after. omega (arith, long, after)) rest
       (placed_behind (λ (entry : Entry). entry.desk) desk mid seen' rest g own)
 
-  outcome : (rest : List Placed) → GoesOn mid seen' → placed desk seen' ≡ placed desk mid ++ rest → AnswersTask s desk seen' key edition budget task rest answer ⊎ (full' × LacksRoom task budget rest answer)
-      → Answers s desk seen' (Ok (asked.Plan key edition budget)) (taken ∷ rest) answer
-      ⊎ (full' × AnswersLate s desk seen' (Ok (asked.Plan key edition budget)) (taken ∷ rest) answer)
-  outcome rest g own (inl is) = inl (inr record { taken = taken; task = task; rest = rest; take = stands g; entries_are = refl; later = later rest g own; planned = is })
+  outcome : (rest : List Placed) → GoesOn mid seen' → placed desk seen' ≡ placed desk mid ++ rest → AnswersTask s desk seen' key edition search task rest answer ⊎ (full' × LacksRoom search task rest answer)
+      → Answers s desk seen' (Ok (asks_plan key edition search)) (taken ∷ rest) answer
+      ⊎ (full' × AnswersLate s desk seen' (Ok (asks_plan key edition search)) (taken ∷ rest) answer)
+  outcome rest g own (inl is) =
+      inl (plan_asked s desk key edition search seen' (taken ∷ rest) answer
+      (inr record { taken = taken; task = task; rest = rest; take = stands g; entries_are = refl; later = later rest g own; planned = is }))
   outcome rest g own (inr (f, (found, none, told))) =
-      inr (f, (inr (taken, task, found.0, stands g, found.1, ap (λ (zs : List Placed). taken ∷ zs) none), told))
+      inr (f, plan_late s desk key edition search seen' (taken ∷ rest) answer (inr (taken, task, stands g, found, ap (λ (zs : List Placed). taken ∷ zs) none)) told)
 
-  pub plan_answered : (full → ⊥) → Planned s desk full' key edition budget task answer mid seen'
-      → Answered s desk full full' (Ok (asked.Plan key edition budget)) answer seen seen'
+  pub plan_answered : (full → ⊥) → Planned s desk full' key edition search task answer mid seen'
+      → Answered s desk full full' (Ok (asks_plan key edition search)) answer seen seen'
   plan_answered free p = record {
     entries = taken ∷ p.rest;
     on = goes_on seen mid seen' (turns.call_on s desk (Take key edition) (says.Task task) seen mid c) p.on;

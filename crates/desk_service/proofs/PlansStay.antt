@@ -7,7 +7,6 @@ use Rattle.std.proofs.lemmas.Bool.Decides.{nat_tests}
 use Rattle.std.proofs.lemmas.List.{map-append}
 use Rattle.std.proofs.lemmas.List.Elements.{All-head, filter-append}
 use Rattle.hold_limits.specs.Problem.{Problem}
-use Rattle.cert_checker.specs.Certified.{Certified}
 use Rattle.aircraft_file.specs.Craft.{Craft}
 use Rattle.trim.specs.declared.figures.Figures.{Figures}
 use Rattle.trim.specs.Refusals.{IsTaskOf}
@@ -23,7 +22,8 @@ use Rattle.flight_history.specs.declared.reply.Refusal.{Refusal}
 use Rattle.flight_history.specs.declared.reply.Refusal.TheVariants as no
 use Rattle.flight_history.specs.declared.reply.Reply.{Reply}
 use Rattle.flight_history.specs.declared.reply.Reply.TheVariants as says
-use Rattle.flight_history.specs.declared.request.Request.TheVariants.{Take, Install}
+use Rattle.flight_history.specs.declared.request.Request.{Request}
+use Rattle.flight_history.specs.declared.request.Request.TheVariants.{Take}
 use Rattle.flight_history.specs.History.{Judged, is_accepted, is_of, acts_of, flight_at, standing_of, is_full, IsJudgedBy, AreJudgedAfter, IsJudgement}
 use Rattle.flight_history.specs.Replies.{IsTaskReply, IsReplyBy}
 use Rattle.flight_history.specs.Standing.{standing}
@@ -33,10 +33,11 @@ use Rattle.flight_history.proofs.OneHistory.{one-acts}
 use Rattle.flight_history.proofs.ReleaseLemmas.{first_none, both_none, current_by}
 use Rattle.flight_history.proofs.StandingLemmas.{standing-push}
 use Rattle.flight_history.proofs.VerdictLemmas.{task-laws}
-use Rattle.editions.specs.Acts.{IsActWith}
 use Rattle.desk_service.specs.Turns.{Setting, Placed, IsMade}
+use Rattle.desk_service.specs.Searches.{install_of}
 use Rattle.desk_service.specs.Exchanges.{is_installed}
 use Rattle.desk_service.specs.Laws.{InstallsTheBest, IsTaskAt}
+use Rattle.desk_service.proofs.Plans.{WritesPath, writes_path, key_of_install, finds_best}
 use Rattle.desk_service.proofs.Refusals.{no_way}
 
 -- Figures change with the edition ------------------------------------------------------------------------
@@ -244,7 +245,7 @@ installed ended.NoMemory fleet opening history j edition x reply is reason none 
 
 -- The plan ------------------------------------------------------------------------------------------------------
 
-module _ (s : Setting) (desk : ℕ) (history : List Entry) (key : List ℕ) (edition budget : ℕ) (entries : List Placed) where
+module _ (s : Setting) (desk : ℕ) (history : List Entry) (key : List ℕ) (edition : ℕ) where
   -- the flight as it stood where the task was taken, and as it stands where the plan is installed
   pub record Still (task : Problem) (judged : List Judged) : Type 0 where
     pub taken : FlightState
@@ -252,10 +253,10 @@ module _ (s : Setting) (desk : ℕ) (history : List Entry) (key : List ℕ) (edi
     pub of_figures : IsTaskFor s.fleet taken task
     pub now : Stays s.fleet (flight_at s.opening key) (acts_of key judged) taken
 
-  pub still : (t u : Placed) (task : Problem) (proven : Certified) (reply : Reply) (take : IsMade s desk history (Take key edition) t (says.Task task))
-      (install : IsMade s desk history (Install key edition proven) u reply)
+  pub still : (t u : Placed) (task : Problem) (asks : Request) (reply : Reply) (take : IsMade s desk history (Take key edition) t (says.Task task))
+      (install : IsMade s desk history asks u reply)
       → t.0 < u.0 → (judged : List Judged) → IsJudgement s.fleet s.opening install.before judged → Still task judged
-  still t u task proven reply take install less judged judgement =
+  still t u task asks reply take install less judged judgement =
       let a = take.turn in
       let own : a.j.entry.key ≡ key = a.of_key in
       let first = took_by a.j.entry.outcome s.fleet s.opening a.history a.j edition task a.of_act.asks a.judged a.replied in
@@ -288,19 +289,22 @@ module _ (s : Setting) (desk : ℕ) (history : List Entry) (key : List ℕ) (edi
 pub first_later : (t u : Placed) (rest : List Placed) → All (λ (one : Placed). t.0 < one.0) rest → rest ≡ u ∷ [] → t.0 < u.0
 first_later t u rest later is = All-head (λ (one : Placed). t.0 < one.0) u [] (subst (All (λ (one : Placed). t.0 < one.0)) is later)
 
-by_install : (proven : Certified) (same : Bool) (key : List ℕ) (edition : ℕ) (x : Act) → IsActWith same (Install key edition proven) x → (s : FlightState) → (given : List (Option Refusal)) × (reasons s x ≡ not_current s edition ∷ given)
-by_install proven same key edition x asks s =
-    (refuse_if (not same) no.OtherTask ∷ [], ap (reasons s) asks.3)
+by_install : (edition : ℕ) (same : Bool) (x : Act) → WritesPath edition same x → (s : FlightState) → (given : List (Option Refusal)) × (reasons s x ≡ not_current s edition ∷ given)
+by_install edition same x w s = (refuse_if (not same) no.OtherTask ∷ [], ap (reasons s) w.is)
 
-never_absent : (fleet : List Craft) (proven : Certified) (same : Bool) (key : List ℕ) (edition : ℕ) (x : Act) → IsActWith same (Install key edition proven) x → (full : Bool) → IsVerdict fleet full None x None → ⊥
-never_absent fleet proven same key edition x asks full is = no_flight (sym (subst (λ (y : Act). IsVerdict fleet full None y None) asks.3 is))
+never_absent : (fleet : List Craft) (edition : ℕ) (same : Bool) (x : Act) → WritesPath edition same x → (full : Bool) → IsVerdict fleet full None x None → ⊥
+never_absent fleet edition same x w full is = no_flight (sym (subst (λ (y : Act). IsVerdict fleet full None y None) w.is is))
 
 pub installs_the_best : InstallsTheBest
-installs_the_best s desk history key edition budget entries answer taken plan agrees =
+installs_the_best s desk history key edition search entries answer taken plan agrees =
     let turn = plan.turn.turn in
+    let asks = install_of key edition plan.found.plan in
     let order = first_later taken.taken plan.installed taken.rest taken.later plan.rest_is in
-    let st = still s desk history key edition budget entries taken.taken plan.installed taken.task plan.proven plan.reply taken.take plan.turn order turn.history turn.judgement in
+    let st = still s desk history key edition taken.taken plan.installed taken.task asks plan.reply taken.take plan.turn order turn.history turn.judgement in
+    let wrote = writes_path key edition plan.found.plan turn.of_act.same turn.j.entry.act turn.of_act.asks in
     let was = installed turn.j.entry.outcome s.fleet s.opening turn.history turn.j edition turn.j.entry.act plan.reply refl
-    (by_install plan.proven turn.of_act.same key edition turn.j.entry.act turn.of_act.asks) (never_absent s.fleet plan.proven turn.of_act.same key edition turn.j.entry.act turn.of_act.asks) agrees turn.judged turn.replied in
-    let own : turn.j.entry.key ≡ key = turn.of_key in
-    (task_at s desk history key edition budget entries taken.task turn.history st (subst (λ (k : List ℕ). WasCurrent (standing_of s.fleet s.opening turn.history k) edition) own was), plan.found.path)
+    (by_install edition turn.of_act.same turn.j.entry.act wrote) (never_absent s.fleet edition turn.of_act.same turn.j.entry.act wrote) agrees turn.judged turn.replied in
+    let own : turn.j.entry.key ≡ key = turn.of_key ∙ key_of_install key edition plan.found.plan in (
+      task_at s desk history key edition taken.task turn.history st (subst (λ (k : List ℕ). WasCurrent (standing_of s.fleet s.opening turn.history k) edition) own was),
+      (finds_best search taken.task plan.found.plan plan.found.text plan.found.finds).path,
+    )

@@ -19,8 +19,10 @@ use Rattle.desk_requests.specs.declared.asked.Asked.{Asked}
 use Rattle.desk_requests.specs.declared.asked.Asked.TheVariants as asked
 use Rattle.desk_routes.specs.declared.route.Route.{Route}
 use Rattle.desk_routes.specs.Targets.{route_of}
+use Rattle.desk_service.specs.declared.searches.Search.{Search}
+use Rattle.desk_service.specs.declared.searches.Search.TheVariants.{Within, ByTrees}
 use Rattle.desk_service.specs.Turns.{Setting, Placed, IsMade}
-use Rattle.desk_service.specs.Exchanges.{IsDue, AnswersTurn, AnswersInstallIf, AnswersTask, AnswersTaken, Answers, AnswersLate, LacksEntry, Exchange, IsRead, IsServed, IsLate, is_installed}
+use Rattle.desk_service.specs.Exchanges.{IsDue, AnswersTurn, AnswersInstallIf, AnswersTask, AnswersTaken, AnswersPlan, Answers, AnswersLate, LacksEntry, LacksPlan, Exchange, IsRead, IsServed, IsLate, is_installed}
 use Rattle.desk_service.specs.Alone.{failures, is_failure}
 use Rattle.desk_service.specs.Laws.{unplaced}
 use Rattle.desk_service.proofs.Refusals.{failed_by_reply, no_way}
@@ -106,18 +108,23 @@ install_tells : (installed : Bool) (plan : Answer) (reply : Reply) (answer : Ans
 install_tells true plan reply answer room fault is = tells_otherwise answer plan _ is room fault
 install_tells false plan reply answer room fault is = due_tells Loadsheet reply answer is
 
-taken_weighs : (s : Setting) (desk : ℕ) (history : List Entry) (key : List ℕ) (edition budget : ℕ) (entries : List Placed) (answer : Answer) → (a : AnswersTaken s desk history key edition budget entries answer)
-    → AnswersTask s desk history key edition budget a.task a.rest answer → Weighs entries answer
-taken_weighs s desk history key edition budget entries answer a (inl (none, out)) =
+taken_weighs : (s : Setting) (desk : ℕ) (history : List Entry) (key : List ℕ) (edition : ℕ) (search : Search) (entries : List Placed) (answer : Answer) → (a : AnswersTaken s desk history key edition search entries answer)
+    → AnswersTask s desk history key edition search a.task a.rest answer → Weighs entries answer
+taken_weighs s desk history key edition search entries answer a (inl (none, out)) =
     subst (λ (es : List Placed). Weighs es answer) (sym (a.entries_are ∙ ap (λ (zs : List Placed). a.taken ∷ zs) none)) record { two = omega arith; tells = tells_otherwise _ _ _ out refl refl }
-taken_weighs s desk history key edition budget entries answer a (inr (inl (none, told))) =
+taken_weighs s desk history key edition search entries answer a (inr (inl (none, told))) =
     subst (λ (es : List Placed). Weighs es answer) (sym (a.entries_are ∙ ap (λ (zs : List Placed). a.taken ∷ zs) none)) record { two = omega arith; tells = tells_otherwise _ _ _ told.told refl refl }
-taken_weighs s desk history key edition budget entries answer a (inr (inr i)) =
+taken_weighs s desk history key edition search entries answer a (inr (inr i)) =
     subst (λ (es : List Placed). Weighs es answer) (sym (a.entries_are ∙ ap (λ (zs : List Placed). a.taken ∷ zs) i.rest_is)) record {
       two = omega arith;
       tells = tells_with answer _ _ (λ is. second_failed a.taken i.installed (made_failed s desk history _ i.installed i.reply i.turn is))
           (install_tells (is_installed i.reply) _ i.reply answer refl refl i.answer_is);
     }
+
+plan_weighs : (s : Setting) (desk : ℕ) (history : List Entry) (key : List ℕ) (edition : ℕ) (search : Search) (entries : List Placed) (answer : Answer)
+    → AnswersPlan s desk history key edition search entries answer → Weighs entries answer
+plan_weighs s desk history key edition search entries answer (inl a) = turn_weighs s desk history _ entries answer a
+plan_weighs s desk history key edition search entries answer (inr a) = taken_weighs s desk history key edition search entries answer a a.planned
 
 -- Exchanges ----------------------------------------------------------------------------------------------
 
@@ -158,8 +165,8 @@ module _ (s : Setting) (desk : ℕ) (history : List Entry) where
       let early = error_early request error read in
       subst (λ (es : List Placed). Weighs es answer) (sym none) record { two = omega arith; tells = tells_otherwise answer (error_answer error) _ is early.0 early.1 }
   served_by request (Ok (asked.Entry asks)) entries answer read a = turn_weighs s desk history asks entries answer a
-  served_by request (Ok (asked.Plan key edition budget)) entries answer read (inl a) = turn_weighs s desk history _ entries answer a
-  served_by request (Ok (asked.Plan key edition budget)) entries answer read (inr a) = taken_weighs s desk history key edition budget entries answer a a.planned
+  served_by request (Ok (asked.Plan key edition budget)) entries answer read a = plan_weighs s desk history key edition (Within budget) entries answer a
+  served_by request (Ok (asked.Best key edition looks)) entries answer read a = plan_weighs s desk history key edition (ByTrees looks) entries answer a
 
   pub served_weighs : (x : Exchange) → IsServed s desk history x → Weighs x.entries x.answer
   served_weighs x v = served_by x.request x.asked x.entries x.answer v.read v.answers
@@ -169,10 +176,14 @@ module _ (s : Setting) (desk : ℕ) (history : List Entry) where
     pub one : length entries ≤ 1
     pub fault : (answer.status == 503) ≡ true → 1 ≤ failures (unplaced entries)
 
+  lacks_plan : (key : List ℕ) (edition : ℕ) (search : Search) (entries : List Placed) → LacksPlan s desk history key edition search entries → length entries ≤ 1
+  lacks_plan key edition search entries (inl none) = rw none (let e : 0 ≤ 1 = omega arith in e)
+  lacks_plan key edition search entries (inr l) = rw l.4 (let e : 1 ≤ 1 = omega arith in e)
+
   lacks_entry : (it : Asked) (entries : List Placed) → LacksEntry s desk history it entries → length entries ≤ 1
   lacks_entry (asked.Entry request) entries none = rw none (let e : 0 ≤ 1 = omega arith in e)
-  lacks_entry (asked.Plan key edition budget) entries (inl none) = rw none (let e : 0 ≤ 1 = omega arith in e)
-  lacks_entry (asked.Plan key edition budget) entries (inr l) = rw l.5 (let e : 1 ≤ 1 = omega arith in e)
+  lacks_entry (asked.Plan key edition budget) entries lacks = lacks_plan key edition (Within budget) entries lacks
+  lacks_entry (asked.Best key edition looks) entries lacks = lacks_plan key edition (ByTrees looks) entries lacks
 
   late_by : (request : http.Request) (it : Result Asked PlainError) (entries : List Placed) (answer : Answer) → IsRead request it → AnswersLate s desk history it entries answer → Lacks entries answer
   late_by request (Err error) entries answer read (none, is) =

@@ -1,16 +1,11 @@
 -- exchanges: what is asked of a desk, the entries that it makes for it, and what it answers
-use Rattle.std.specs.Prelude.{◌≡◌, ◌⊎◌, ◌<◌, ℕ, Bool, true, false, List, [], ◌∷◌, All, Result, Ok, Err}
+use Rattle.std.specs.Prelude.{◌≡◌, ◌⊎◌, ◌<◌, ℕ, Bool, true, false, List, [], ◌∷◌, All, None, Result, Ok, Err}
 use Rattle.hold_limits.specs.Problem.{Problem}
-use Rattle.cert_checker.specs.Certified.{Certified}
-use Rattle.placer.specs.Answers.{IfBest, IsAnswerTo}
-use Rattle.placer.specs.AnswerText.{answer_text}
-use Rattle.placer.specs.declared.answer.Answer.{Answer as Found}
-use Rattle.placer.specs.declared.answer.Answer.TheVariants.{Best}
 use Rattle.flight_history.specs.declared.entry.Entry.{Entry}
 use Rattle.flight_history.specs.declared.reply.Reply.{Reply}
 use Rattle.flight_history.specs.declared.reply.Reply.TheVariants as says
 use Rattle.flight_history.specs.declared.request.Request.{Request}
-use Rattle.flight_history.specs.declared.request.Request.TheVariants.{Take, Install, Show}
+use Rattle.flight_history.specs.declared.request.Request.TheVariants.{Take, Show}
 use Rattle.flight_history.specs.declared.request.What.TheVariants.{Ldm, Cpm}
 use Rattle.http_wire.specs.Requests as http
 use Rattle.desk_answers.specs.Answers.{answer_to, error_answer, text_answer}
@@ -22,6 +17,9 @@ use Rattle.desk_answers.specs.declared.errors.PlainError.TheVariants.{Full, Memo
 use Rattle.desk_requests.specs.Asked.{Asks}
 use Rattle.desk_requests.specs.declared.asked.Asked.{Asked}
 use Rattle.desk_requests.specs.declared.asked.Asked.TheVariants as asked
+use Rattle.desk_service.specs.declared.searches.Search.{Search}
+use Rattle.desk_service.specs.declared.searches.Search.TheVariants.{Within, ByTrees}
+use Rattle.desk_service.specs.Searches.{Finds, FindsPlan, install_of}
 use Rattle.desk_service.specs.Turns.{Setting, Placed, IsMade}
 
 -- Answers to one turn --------------------------------------------------------------------------------
@@ -46,20 +44,20 @@ pub record AnswersTurn (s : Setting) (desk : ℕ) (history : List Entry) (reques
 
 -- Answers to a plan ----------------------------------------------------------------------------------
 
+-- what asks for a plan by this search
+abbrev pub asks_plan : List ℕ → ℕ → Search → Asked
+asks_plan key edition (Within budget) = asked.Plan key edition budget
+asks_plan key edition (ByTrees looks) = asked.Best key edition looks
+
 -- the plan's task was taken: an entry, with the task as its reply
 abbrev pub IsTaken : Setting → ℕ → List Entry → List ℕ → ℕ → Placed → Problem → Type 0
 IsTaken s desk history key edition taken task = IsMade s desk history (Take key edition) taken (says.Task task)
 
--- the search found no path for the task, and the answer tells what it found
-pub record TellsNoPlan (task : Problem) (budget : ℕ) (answer : Answer) : Type 0 where
-  pub found : Found
-  pub answers : IsAnswerTo task budget found
-  pub none : IfBest found (λ _. ⊥)
-  pub told : answer ≡ text_answer (answer_text task found)
-
--- the search found the best path for the task, with this evidence
-abbrev pub IsFound : Problem → ℕ → Certified → Type 0
-IsFound task budget proven = IsAnswerTo task budget (Best proven)
+-- the search found no plan for the task, and the answer tells what it found
+pub record TellsNoPlan (search : Search) (task : Problem) (answer : Answer) : Type 0 where
+  pub text : List ℕ
+  pub finds : Finds search task None text
+  pub told : answer ≡ text_answer text
 
 -- the reply says that the plan was installed
 abbrev pub is_installed : Reply → Bool
@@ -74,37 +72,36 @@ AnswersInstallIf false plan reply answer = IsDue (answer_to Loadsheet reply) ans
 abbrev pub AnswersInstall : Answer → Reply → Answer → Type 0
 AnswersInstall plan reply answer = AnswersInstallIf (is_installed reply) plan reply answer
 
--- the search found the best path for the task, and a second entry asked to install it
-pub record InstallsPlan (s : Setting) (desk : ℕ) (history : List Entry) (key : List ℕ) (edition budget : ℕ) (task : Problem) (rest : List Placed) (answer : Answer) : Type 0 where
-  pub proven : Certified
-  pub found : IsFound task budget proven
+-- the search found a plan for the task, and a second entry asked to install it
+pub record InstallsPlan (s : Setting) (desk : ℕ) (history : List Entry) (key : List ℕ) (edition : ℕ) (search : Search) (task : Problem) (rest : List Placed) (answer : Answer) : Type 0 where
+  pub found : FindsPlan search task
   pub installed : Placed
   pub reply : Reply
-  pub turn : IsMade s desk history (Install key edition proven) installed reply
+  pub turn : IsMade s desk history (install_of key edition found.plan) installed reply
   pub rest_is : rest ≡ installed ∷ []
-  pub answer_is : AnswersInstall (text_answer (answer_text task (Best proven))) reply answer
+  pub answer_is : AnswersInstall (text_answer found.text) reply answer
 
 -- what is answered once the task was taken: memory ran out, there is no plan, or it was to be installed
-abbrev pub AnswersTask : Setting → ℕ → List Entry → List ℕ → ℕ → ℕ → Problem → List Placed → Answer → Type 0
-AnswersTask s desk history key edition budget task rest answer =
+abbrev pub AnswersTask : Setting → ℕ → List Entry → List ℕ → ℕ → Search → Problem → List Placed → Answer → Type 0
+AnswersTask s desk history key edition search task rest answer =
     ((rest ≡ []) × (answer ≡ error_answer Memory))
-    ⊎ (((rest ≡ []) × TellsNoPlan task budget answer)
-    ⊎ InstallsPlan s desk history key edition budget task rest answer)
+    ⊎ (((rest ≡ []) × TellsNoPlan search task answer)
+    ⊎ InstallsPlan s desk history key edition search task rest answer)
 
 -- a request for a plan whose task was taken; its other entries stand later
-pub record AnswersTaken (s : Setting) (desk : ℕ) (history : List Entry) (key : List ℕ) (edition budget : ℕ) (entries : List Placed) (answer : Answer) : Type 0 where
+pub record AnswersTaken (s : Setting) (desk : ℕ) (history : List Entry) (key : List ℕ) (edition : ℕ) (search : Search) (entries : List Placed) (answer : Answer) : Type 0 where
   pub taken : Placed
   pub task : Problem
   pub rest : List Placed
   pub take : IsTaken s desk history key edition taken task
   pub entries_are : entries ≡ taken ∷ rest
   pub later : All (λ (one : Placed). taken.0 < one.0) rest
-  pub planned : AnswersTask s desk history key edition budget task rest answer
+  pub planned : AnswersTask s desk history key edition search task rest answer
 
 -- a request for a plan: the task was not given, which is answered as any other reply, or it was taken
-abbrev pub AnswersPlan : Setting → ℕ → List Entry → List ℕ → ℕ → ℕ → List Placed → Answer → Type 0
-AnswersPlan s desk history key edition budget entries answer =
-    AnswersTurn s desk history (Take key edition) entries answer ⊎ AnswersTaken s desk history key edition budget entries answer
+abbrev pub AnswersPlan : Setting → ℕ → List Entry → List ℕ → ℕ → Search → List Placed → Answer → Type 0
+AnswersPlan s desk history key edition search entries answer =
+    AnswersTurn s desk history (Take key edition) entries answer ⊎ AnswersTaken s desk history key edition search entries answer
 
 -- Answers ------------------------------------------------------------------------------------------
 
@@ -116,22 +113,29 @@ AnswersError error entries answer = (entries ≡ []) × (answer ≡ error_answer
 abbrev pub Answers : Setting → ℕ → List Entry → Result Asked PlainError → List Placed → Answer → Type 0
 Answers s desk history (Err error) entries answer = AnswersError error entries answer
 Answers s desk history (Ok (asked.Entry request)) entries answer = AnswersTurn s desk history request entries answer
-Answers s desk history (Ok (asked.Plan key edition budget)) entries answer = AnswersPlan s desk history key edition budget entries answer
+Answers s desk history (Ok (asked.Plan key edition budget)) entries answer = AnswersPlan s desk history key edition (Within budget) entries answer
+Answers s desk history (Ok (asked.Best key edition looks)) entries answer = AnswersPlan s desk history key edition (ByTrees looks) entries answer
 
--- the search found the best path for the task, and there was no room for the entry that asks to install it
-abbrev pub LacksRoom : Problem → ℕ → List Placed → Answer → Type 0
-LacksRoom task budget rest answer = ((proven : Certified) × IsFound task budget proven) × (rest ≡ []) × (answer ≡ error_answer Full)
+-- the search found a plan for the task, and there was no room for the entry that asks to install it
+abbrev pub LacksRoom : Search → Problem → List Placed → Answer → Type 0
+LacksRoom search task rest answer = FindsPlan search task × (rest ≡ []) × (answer ≡ error_answer Full)
 
--- there was no room for an entry that was needed. A plan's task may have been taken before
-abbrev pub LacksInstall : Setting → ℕ → List Entry → List ℕ → ℕ → ℕ → List Placed → Type 0
-LacksInstall s desk history key edition budget entries =
-    (taken : Placed) × (task : Problem) × (proven : Certified)
-    × IsTaken s desk history key edition taken task × IsFound task budget proven × (entries ≡ taken ∷ [])
+-- the plan's task was taken, and there was no room for that entry
+abbrev pub LacksInstall : Setting → ℕ → List Entry → List ℕ → ℕ → Search → List Placed → Type 0
+LacksInstall s desk history key edition search entries =
+    (taken : Placed) × (task : Problem)
+    × IsTaken s desk history key edition taken task × FindsPlan search task × (entries ≡ taken ∷ [])
 
+-- there was no room for that entry, or for the one that takes the task
+abbrev pub LacksPlan : Setting → ℕ → List Entry → List ℕ → ℕ → Search → List Placed → Type 0
+LacksPlan s desk history key edition search entries =
+    (entries ≡ []) ⊎ LacksInstall s desk history key edition search entries
+
+-- there was no room for an entry that was needed
 abbrev pub LacksEntry : Setting → ℕ → List Entry → Asked → List Placed → Type 0
 LacksEntry s desk history (asked.Entry request) entries = entries ≡ []
-LacksEntry s desk history (asked.Plan key edition budget) entries =
-    (entries ≡ []) ⊎ LacksInstall s desk history key edition budget entries
+LacksEntry s desk history (asked.Plan key edition budget) entries = LacksPlan s desk history key edition (Within budget) entries
+LacksEntry s desk history (asked.Best key edition looks) entries = LacksPlan s desk history key edition (ByTrees looks) entries
 
 -- the entries and the answer to what was asked, where there is no room for an entry that it needs
 abbrev pub AnswersLate : Setting → ℕ → List Entry → Result Asked PlainError → List Placed → Answer → Type 0

@@ -3,15 +3,16 @@ use Rattle.std.specs.Prelude.{◌≡◌, ◌≢◌, ◌<◌, ◌≤◌, ◌*◌,
 use Rattle.std.specs.List.{list_any}
 use Rattle.hold_limits.specs.Placement.{IsBest}
 use Rattle.hold_limits.specs.Problem.{Problem}
-use Rattle.certificate.specs.Evidence.{claimed}
 use Rattle.flight_state.specs.declared.state.FlightState.{FlightState}
 use Rattle.flight_history.specs.History.{Judged, IsJudged, IsJudgement, standing_of}
 use Rattle.flight_history.specs.Verdict.{IsTaskFor}
 use Rattle.flight_history.specs.declared.entry.Entry.{Entry}
 use Rattle.flight_history.specs.declared.reply.Refusal.TheVariants as no
 use Rattle.desk_answers.specs.declared.answer.Answer.{Answer}
+use Rattle.desk_service.specs.declared.searches.Search.{Search}
 use Rattle.desk_service.specs.Places.{GoesOn, Stands}
 use Rattle.desk_service.specs.Turns.{Setting, Placed}
+use Rattle.desk_service.specs.Searches.{path_of}
 use Rattle.desk_service.specs.Exchanges.{Exchange, AnswersTaken, InstallsPlan, is_installed}
 use Rattle.desk_service.specs.Service.{Service, entries_of}
 use Rattle.desk_service.specs.Alone.{failures}
@@ -54,11 +55,11 @@ pub record IsTaskAt (s : Setting) (history : List Judged) (key : List ℕ) (edit
 -- an installed plan is the best one for the flight's figures at the edition that was named, whatever came between the taking
 -- of its task and its own turn
 abbrev pub InstallsTheBest : Type 0
-InstallsTheBest = (s : Setting) (desk : ℕ) (history : List Entry) (key : List ℕ) (edition budget : ℕ) (entries : List Placed) (answer : Answer)
-    → (taken : AnswersTaken s desk history key edition budget entries answer)
-    → (plan : InstallsPlan s desk history key edition budget taken.task taken.rest answer) → is_installed plan.reply ≡ true
+InstallsTheBest = (s : Setting) (desk : ℕ) (history : List Entry) (key : List ℕ) (edition : ℕ) (search : Search) (entries : List Placed) (answer : Answer)
+    → (taken : AnswersTaken s desk history key edition search entries answer)
+    → (plan : InstallsPlan s desk history key edition search taken.task taken.rest answer) → is_installed plan.reply ≡ true
     → IsTaskAt s plan.turn.turn.history key edition taken.task
-    × IsSomeAnd (claimed plan.proven.certificate.claim) (IsBest taken.task)
+    × IsSomeAnd (path_of plan.found.plan) (IsBest taken.task)
 
 -- the office's verdict on the entry at its place is not that its plan is for another task
 abbrev pub IsForItsTask : Setting → List Entry → Placed → Type 0

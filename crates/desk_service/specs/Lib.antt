@@ -1,5 +1,6 @@
 pub mod Places
 pub mod Turns
+pub mod Searches
 pub mod Exchanges
 pub mod Service
 pub mod Alone

@@ -6,6 +6,7 @@ use Rattle.http_wire.specs.Requests as http
 use Rattle.desk_answers.specs.declared.answer.Answer.{Answer}
 use Rattle.desk_answers.specs.declared.errors.PlainError.{PlainError}
 use Rattle.desk_requests.specs.declared.asked.Asked.{Asked}
+use Rattle.desk_service.specs.declared.searches.Search.{Search}
 use Rattle.desk_service.specs.Places.{GoesOn}
 use Rattle.desk_service.specs.Turns.{Setting, Placed, placed}
 use Rattle.hold_limits.specs.Problem.{Problem}
@@ -56,8 +57,8 @@ pub record Answered (s : Setting) (desk : ℕ) (full full' : Type 0) (it : Resul
   pub stuck : full → AnswersLate s desk seen' it entries answer
 
 -- what planning does to that history once the task was taken
-pub record Planned (s : Setting) (desk : ℕ) (full : Type 0) (key : List ℕ) (edition budget : ℕ) (task : Problem) (answer : Answer) (seen seen' : List Entry) : Type 0 where
+pub record Planned (s : Setting) (desk : ℕ) (full : Type 0) (key : List ℕ) (edition : ℕ) (search : Search) (task : Problem) (answer : Answer) (seen seen' : List Entry) : Type 0 where
   pub rest : List Placed
   pub on : GoesOn seen seen'
   pub own : placed desk seen' ≡ placed desk seen ++ rest
-  pub is : AnswersTask s desk seen' key edition budget task rest answer ⊎ (full × LacksRoom task budget rest answer)
+  pub is : AnswersTask s desk seen' key edition search task rest answer ⊎ (full × LacksRoom search task rest answer)

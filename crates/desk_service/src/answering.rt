@@ -1,24 +1,25 @@
 //! Answers to requests.
 
-ghost use Rattle.std.specs.Prelude.{◌≡◌, ℕ, Ok, IsTrue, IfOk};
+ghost use Rattle.std.specs.Prelude.{◌≡◌, Ok, Some, IsTrue, IfOk};
 ghost use Rattle.hold_limits.specs.Problem.{Problem};
 ghost use Rattle.flight_history.specs.Asking.{IsWithinLimits};
 ghost use Rattle.http_wire.specs.Answer.{is_answered};
-ghost use Rattle.placer.specs.AnswerText.{answer_text};
 ghost use Rattle.desk_answers.specs.Answers.{answered, text_answer};
 ghost use Rattle.desk_requests.specs.Within.{IsLawful};
-ghost use Rattle.desk_service.specs.Exchanges.{AnswersInstall, IsFound, document_of, is_installed};
+ghost use Rattle.desk_service.specs.declared.searches.Search.{Search};
+ghost use Rattle.desk_service.specs.Exchanges.{AnswersInstall, asks_plan, document_of, is_installed};
+ghost use Rattle.desk_service.specs.Searches.{Finds, install_of};
 ghost use Rattle.desk_service.specs.Service.{Answered, Planned};
 
 use crate::counter::Counter;
-use cert_checker::Proven;
+use crate::searches::{Found, FoundPlan, Search, find_plan};
 use desk_answers::{Answer, Document, PlainError, answer_to};
 use desk_requests::Asked;
 use flight_history::{Reply, Request, What};
 use flight_state::FlightKey;
 use hold_limits::Task;
 use keeper::Bytes;
-use placer::{Answer as Found, Placing, write_answer};
+use placer::Placing;
 use std::alloc::Global;
 
 /// The document that a request asks for; a release issues the loadsheet.
@@ -79,6 +80,17 @@ fn answer_install(alloc: Global, reply: Reply, text: Bytes) -> Result<Answer, Pl
     answer_to(alloc, Document::Loadsheet, reply)
 }
 
+/// The request that installs a plan.
+fn request_to_install(key: FlightKey, edition: u32, plan: FoundPlan) -> Request
+    ensures request { result ≡ install_of key edition plan }
+    ensures within { IsWithinLimits result }
+{
+    match plan {
+        FoundPlan::Certified(plan) => Request::Install { key, edition, plan },
+        FoundPlan::Best(plan) => Request::InstallBest { key, edition, plan },
+    }
+}
+
 /// Asks to install a plan, whose text is ready. So nothing can run out of memory once it is installed.
 fn install<Rt, C: Counter<Rt>>(
     rt: &Rt,
@@ -86,11 +98,11 @@ fn install<Rt, C: Counter<Rt>>(
     counter: &mut C,
     key: FlightKey,
     edition: u32,
-    plan: Proven,
+    plan: FoundPlan,
     text: Bytes,
 ) -> Result<Answer, PlainError>
-    ensures planned { (task : Problem) (budget : ℕ) → IsFound task budget plan → text ≡ answer_text task (Found.Best plan)
-        → Planned (C.setting counter.old) (C.desk counter.old) (C.full counter.new) key edition budget task
+    ensures planned { (search : Search) (task : Problem) → Finds search task (Some plan) text
+        → Planned (C.setting counter.old) (C.desk counter.old) (C.full counter.new) key edition search task
         (answered result) (C.seen counter.old) (C.seen counter.new) }
     ensures known { IfOk result (λ answer. IsTrue (is_answered answer.status)) }
     ensures setting { C.setting counter.new ≡ C.setting counter.old }
@@ -98,7 +110,7 @@ fn install<Rt, C: Counter<Rt>>(
     ensures full { C.full counter.old → C.full counter.new }
     ensures follows { C.follows counter.old counter.new }
 {
-    match counter.call(rt, alloc, Request::Install { key, edition, plan }) {
+    match counter.call(rt, alloc, request_to_install(key, edition, plan)) {
         Ok(reply) => answer_install(alloc, reply, text),
         Err(_) => Err(PlainError::Full),
     }
@@ -112,10 +124,10 @@ fn answer_task<Rt, C: Counter<Rt>, P: Placing>(
     placing: &P,
     key: FlightKey,
     edition: u32,
-    budget: u32,
+    search: Search,
     task: Task,
 ) -> Result<Answer, PlainError>
-    ensures planned { Planned (C.setting counter.old) (C.desk counter.old) (C.full counter.new) key edition budget task
+    ensures planned { Planned (C.setting counter.old) (C.desk counter.old) (C.full counter.new) key edition search task
         (answered result) (C.seen counter.old) (C.seen counter.new) }
     ensures known { IfOk result (λ answer. IsTrue (is_answered answer.status)) }
     ensures setting { C.setting counter.new ≡ C.setting counter.old }
@@ -123,16 +135,14 @@ fn answer_task<Rt, C: Counter<Rt>, P: Placing>(
     ensures full { C.full counter.old → C.full counter.new }
     ensures follows { C.follows counter.old counter.new }
 {
-    let found = placing.place(alloc, &task, budget)?;
-    let text = Bytes::from(write_answer(alloc, &task, &found)?);
-    match found {
-        Found::Best(plan) => install(rt, alloc, counter, key, edition, plan, text),
-        Found::NoneFits(_nothing) => Ok(Answer::text(text)),
-        Found::Budget(_) => Ok(Answer::text(text)),
+    let Found { plan, text } = find_plan(alloc, task, search, placing)?;
+    match plan {
+        Some(plan) => install(rt, alloc, counter, key, edition, plan, text),
+        None => Ok(Answer::text(text)),
     }
 }
 
-/// Answers a request for a plan: its task is taken, then planned, then the plan is installed.
+/// Answers a request for a plan: its task is taken, then a plan is searched for, and then the plan is installed.
 fn answer_plan<Rt, C: Counter<Rt>, P: Placing>(
     rt: &Rt,
     alloc: Global,
@@ -140,10 +150,10 @@ fn answer_plan<Rt, C: Counter<Rt>, P: Placing>(
     placing: &P,
     key: FlightKey,
     edition: u32,
-    budget: u32,
+    search: Search,
 ) -> Result<Answer, PlainError>
     ensures answered { Answered (C.setting counter.old) (C.desk counter.old) (C.full counter.old) (C.full counter.new)
-        (Ok (Asked.Plan key edition budget)) (answered result) (C.seen counter.old) (C.seen counter.new) }
+        (Ok (asks_plan key edition search)) (answered result) (C.seen counter.old) (C.seen counter.new) }
     ensures known { IfOk result (λ answer. IsTrue (is_answered answer.status)) }
     ensures setting { C.setting counter.new ≡ C.setting counter.old }
     ensures desk { C.desk counter.new ≡ C.desk counter.old }
@@ -153,7 +163,7 @@ fn answer_plan<Rt, C: Counter<Rt>, P: Placing>(
     let take = Request::Take { key, edition };
     match counter.call(rt, alloc, take) {
         Ok(Reply::Task(task)) => {
-            answer_task(rt, alloc, counter, placing, key, edition, budget, task)
+            answer_task(rt, alloc, counter, placing, key, edition, search, task)
         }
         Ok(reply) => answer_to(alloc, Document::Loadsheet, reply),
         Err(_) => Err(PlainError::Full),
@@ -183,7 +193,18 @@ fn answer_one<Rt, C: Counter<Rt>, P: Placing>(
             key,
             edition,
             budget,
-        } => answer_plan(rt, alloc, counter, placing, key, edition, budget),
+        } => {
+            let search = Search::Within(budget);
+            answer_plan(rt, alloc, counter, placing, key, edition, search)
+        }
+        Asked::Best {
+            key,
+            edition,
+            looks,
+        } => {
+            let search = Search::ByTrees(looks);
+            answer_plan(rt, alloc, counter, placing, key, edition, search)
+        }
     }
 }
 

@@ -11,6 +11,7 @@ mod answering;
 mod bench;
 mod counter;
 mod laws;
+mod searches;
 mod solo;
 
 pub use answering::answer_asked;

@@ -6,7 +6,7 @@ use Rattle.desk_service.proofs.answering.answer_plan.Goals as goal
 pub returns-in-Ok-Task-clause-answered : goal.returns-in-Ok-Task-clause-answered
 returns-in-Ok-Task-clause-answered g c =
     let e = c.in-Ok-Task.ensures in
-    plan_answered _ _ _ _ c.args.key c.args.edition c.args.budget c.in-Ok-Task.task _ _ _ _
+    plan_answered _ _ _ _ c.args.key c.args.edition c.args.search c.in-Ok-Task.task _ _ _ _
     (rw c.in-Ok-Task.field-0-is at e.answered) (not_error e.forever) (rw (e.setting, e.desk) at c.answer_task.ensures.planned)
 
 pub returns-in-Ok-Task-clause-follows : goal.returns-in-Ok-Task-clause-follows
@@ -16,7 +16,7 @@ pub returns-in-Ok : goal.returns-in-Ok
 returns-in-Ok g c =
     let e = c.in-Ok.ensures in
     record {
-      answered = no_task _ _ _ _ c.args.key c.args.edition c.args.budget c.in-Ok.reply _ _ _ (not_error e.forever) e.answered (is_due _ _ c.answer_to.ensures);
+      answered = no_task _ _ _ _ c.args.key c.args.edition c.args.search c.in-Ok.reply _ _ _ (not_error e.forever) e.answered (is_due _ _ c.answer_to.ensures);
       known = known_status Loadsheet c.in-Ok.reply c.answer_to.result c.answer_to.ensures;
       setting = e.setting;
       desk = e.desk;
@@ -25,4 +25,4 @@ returns-in-Ok g c =
     }
 
 pub returns-clause-answered : goal.returns-clause-answered
-returns-clause-answered g c = let e = c.in-Err.ensures in no_room_to_take _ _ _ _ c.args.key c.args.edition c.args.budget _ _ e.unseen e.full
+returns-clause-answered g c = let e = c.in-Err.ensures in no_room_to_take _ _ _ _ c.args.key c.args.edition c.args.search _ _ e.unseen e.full
