@@ -1,4 +1,4 @@
-//! Tests of the commands about one task or load, from their arguments to what is printed.
+//! Tests of the commands about a task, a load or a flight in transit, from their arguments to what is printed.
 //! They stand apart, since a crate with tests is proved twice.
 #![tactic(auto)]
 
@@ -12,5 +12,7 @@ mod prices;
 mod runs;
 #[cfg(test)]
 mod stops;
+#[cfg(test)]
+mod transit;
 #[cfg(test)]
 mod trees;

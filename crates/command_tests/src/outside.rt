@@ -46,7 +46,7 @@ fn long_shelf(alloc: Global, length: usize) -> Result<MemoryShelf, NoMemory> {
 #[test]
 fn a_file_that_is_too_long_is_refused(rt: HostRuntime) -> Result<(), Fail> {
     let mut shelf = long_shelf(rt.alloc(), 1_048_576 + 1)?;
-    for words in ["place,t", "stops,t"] {
+    for words in ["place,t", "stops,t", "transit,t,t,t,FRA,ARN"] {
         let refused = ran_on(rt.alloc(), words, &mut shelf, 100)?;
         assert_eq!(rt; refused.as_str(), "3 INPUT LONG\n");
     }

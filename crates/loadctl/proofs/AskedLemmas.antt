@@ -4,7 +4,7 @@ use Rattle.std.specs.Prelude.{codes}
 use Rattle.plan_commands.specs.declared.arguments.Command.{Command}
 use Rattle.plan_commands.specs.Arguments.{Job, AskFor, IsCommand, AreInvalid, arguments_of}
 use Rattle.plan_commands.specs.Commands.{job_of}
-use Rattle.plan_commands.specs.Arguments.AskFor.{place_usually, place_within, check_certificate, best_usually, best_within, check_best, priced_usually, priced_within, check_prices, stops_usually, stops_within, generate_load}
+use Rattle.plan_commands.specs.Arguments.AskFor.{place_usually, place_within, check_certificate, best_usually, best_within, check_best, priced_usually, priced_within, check_prices, stops_usually, stops_within, transit_usually, transit_within, transit_task, generate_load}
 use Rattle.loadctl.specs.Desk.{AskForDesk}
 use Rattle.loadctl.specs.Serve.{AskForServe, AskForNoServe}
 use Rattle.loadctl.specs.declared.asked.AskedDesk.{AskedDesk}
@@ -42,6 +42,9 @@ module _ (arguments : List (List ℕ)) where
   command-asks _ (check_prices task c is) = ap asks_for is
   command-asks _ (stops_usually file is) = ap asks_for is
   command-asks _ (stops_within file n is low high) = ap asks_for is
+  command-asks _ (transit_usually names is stations) = ap asks_for is
+  command-asks _ (transit_within names n is stations low high) = ap asks_for is
+  command-asks _ (transit_task names is stations) = ap asks_for is
   command-asks _ (generate_load n is fits) = ap asks_for is
 
   desk-asks : (names : List (List ℕ)) → AskForDesk arguments names → asks_for arguments ≡ one_desk
@@ -52,7 +55,7 @@ module _ (arguments : List (List ℕ)) where
   unfolding asks_by asks_for
   serve-asks n p names is = ap asks_for is.form
 
-  -- a command about one task or load asks for no office
+  -- a command about a task, a load or a flight in transit asks for no office
   pub command-no_desk : (job : Job) → IsCommand arguments job → (names : List (List ℕ)) → AskForDesk arguments names → ⊥
   command-no_desk job command names is = let c = command-asks job command.form in let d = desk-asks names is in cc
 

@@ -5,7 +5,7 @@ use Rattle.plan_commands.specs.Arguments.{AreInvalid}
 use Rattle.loadctl.specs.Desk.{AskForDesk}
 use Rattle.loadctl.specs.Serve.{ports_end, AskForServe, AskForNoServe, KeepIn}
 
--- the arguments are invalid: they ask neither for a command about one task or load nor for an office
+-- the arguments are invalid: they ask neither for a command about a task, a load or a flight in transit nor for an office
 pub record AskForNothing (arguments : List (List ℕ)) : Type 0 where
   pub no_command : AreInvalid arguments
   pub no_desk : (names : List (List ℕ)) → AskForDesk arguments names → ⊥

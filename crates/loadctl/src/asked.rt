@@ -44,7 +44,7 @@ pub struct AskedServe<'a> {
 /// What arguments ask for that ask for no door.
 #[derive(Clone, Copy)]
 pub enum AskedOne<'a> {
-    /// A command about one task, or about one load over several sectors.
+    /// A command about one task, one load over several sectors, or one flight in transit.
     Task(Command<'a>),
     Desk(AskedDesk<'a>),
     /// The arguments are invalid.

@@ -1,6 +1,7 @@
 //! One run of the program, from its arguments to its exit status.
 
 ghost use Rattle.std.specs.Prelude.{◌≡◌, [], List, ℕ, vec_len};
+ghost use Rattle.std.specs.Option.{option_copied};
 ghost use Rattle.plan_commands.specs.Arguments.{arguments_of};
 ghost use Rattle.plan_commands.specs.Commands.{AreCommand};
 ghost use Rattle.plan_commands.specs.Run.{outside, ExitsWith};
@@ -22,16 +23,16 @@ use std::alloc::Global;
 use std::sync::Wait;
 use std::thread::Threads;
 
-/// Does what a command about one task or load asks, or says that the arguments are invalid where there is none.
+/// Does what a command about a task, a load or a flight in transit asks, or says that the arguments are invalid where there is none.
 fn run_task<F: Shelf, O: Sink, K: Keeper, P: Placing>(
     alloc: Global,
-    command: Option<Command<'_>>,
+    command: Option<&Command<'_>>,
     shelf: &mut F,
     out: &mut O,
     keeper: K,
     placing: &P,
 ) -> OfficeRun<u8, K, ()>
-    ensures exits { (arguments : List (List ℕ)) → AreCommand arguments command.entry → ExitsWith arguments
+    ensures exits { (arguments : List (List ℕ)) → AreCommand arguments (option_copied command.entry) → ExitsWith arguments
         (outside (F.files shelf.old) (F.faults shelf.old) (O.content out.old) (O.faults out.old))
         (outside (F.files shelf.new) (F.faults shelf.new) (O.content out.new) (O.faults out.new))
         result.ending }
@@ -47,14 +48,14 @@ fn run_task<F: Shelf, O: Sink, K: Keeper, P: Placing>(
 fn run_asked<Rt, F: Shelf, S: Source, O: Sink, K: Keeper, P: Placing>(
     rt: &Rt,
     alloc: Global,
-    asked: AskedOne<'_>,
+    asked: &AskedOne<'_>,
     shelf: &mut F,
     input: &mut S,
     out: &mut O,
     keeper: K,
     placing: &P,
 ) -> OfficeRun<u8, K, ()>
-    ensures { (arguments : List (List ℕ)) → AskOne arguments asked.entry → Runs arguments
+    ensures { (arguments : List (List ℕ)) → AskOne arguments asked.now → Runs arguments
         (surroundings (F.files shelf.old) (F.faults shelf.old) (K.tables keeper) (K.faults keeper)
         (line (S.left input.old) (O.content out.old) (S.faults input.old) (O.faults out.old)))
         (surroundings (F.files shelf.new) (F.faults shelf.new) (K.tables result.keeper) (K.faults result.keeper)
@@ -90,7 +91,7 @@ pub fn run_one<Rt, F: Shelf, S: Source, O: Sink, K: Keeper, P: Placing>(
         result.ending result.opening.items result.history.items }
 {
     match asked_by(words.as_slice()) {
-        Asked::One(asked) => run_asked(rt, alloc, asked, shelf, input, out, keeper, placing),
+        Asked::One(asked) => run_asked(rt, alloc, &asked, shelf, input, out, keeper, placing),
         // Where doors are asked for, the arguments are none of a run without them.
         Asked::Serve(_) => run_task(alloc, None, shelf, out, keeper, placing),
     }
@@ -137,7 +138,7 @@ pub fn run<
                 opening,
                 history,
                 ..
-            } = run_asked(rt, alloc, asked, shelf, input, out, keeper, placing);
+            } = run_asked(rt, alloc, &asked, shelf, input, out, keeper, placing);
             Ran {
                 status,
                 keeper,

@@ -28,11 +28,11 @@ fn place_of_file(store: &str, place: usize) -> Option<usize>
 }
 
 /// What a run at no door needs, unless the arguments are invalid.
-fn needs_of(one: AskedOne<'_>) -> Result<Needs, WordFault>
-    ensures needed { (arguments : List (List ℕ)) → AskOne arguments one.entry
+fn needs_of(one: &AskedOne<'_>) -> Result<Needs, WordFault>
+    ensures needed { (arguments : List (List ℕ)) → AskOne arguments one.now
         → IfOk result (λ needed. AreNeeded arguments needed.doors needed.port needed.store) }
-    ensures usage { (arguments : List (List ℕ)) → AskOne arguments one.entry → result ≡ Err WordFault.Usage → AskForNothing arguments }
-    ensures invalid { (arguments : List (List ℕ)) → AskOne arguments one.entry → AskForNothing arguments → IsErr result }
+    ensures usage { (arguments : List (List ℕ)) → AskOne arguments one.now → result ≡ Err WordFault.Usage → AskForNothing arguments }
+    ensures invalid { (arguments : List (List ℕ)) → AskOne arguments one.now → AskForNothing arguments → IsErr result }
     ensures no_memory { result ≢ Err WordFault.NoMemory }
 {
     match one {
@@ -58,7 +58,7 @@ pub fn needs(_alloc: Global, words: &Vec<String>) -> Result<Needs, WordFault>
     ensures no_memory { result ≢ Err WordFault.NoMemory }
 {
     match asked_by(words.as_slice()) {
-        Asked::One(one) => needs_of(one),
+        Asked::One(one) => needs_of(&one),
         Asked::Serve(serve) => Ok(Needs {
             doors: serve.desks,
             port: serve.port,

@@ -5,7 +5,7 @@ use Rattle.load_io.specs.Shelf.{Files}
 use Rattle.hold_limits.specs.Problem.{Problem}
 use Rattle.stop_tasks.specs.Stops.{Stops}
 use Rattle.certificate.specs.declared.parts.Certificate.{Certificate}
-use Rattle.plan_answers.specs.declared.reply.Outcome.{Outcome}
+use Rattle.task_answers.specs.declared.reply.Outcome.{Outcome}
 use Rattle.plan_commands.specs.declared.ending.Halt.{Halt}
 use Rattle.plan_commands.specs.declared.ending.Halt.TheVariants.{BadInput, ReadFault, NoMemory}
 use Rattle.plan_commands.specs.Halts.{IfBadInput}

@@ -54,6 +54,10 @@ pub IfErr-from_residual : {X E : Type 0} (r : Result X E) (e : E) (P : E → Typ
 IfErr-from_residual (Ok x) e P is holds = tt
 IfErr-from_residual (Err x) e P is holds = subst P (sym is) holds
 
+pub IfErr-weaker : {X E : Type 0} (r : Result X E) (P Q : E → Type 0) → ((e : E) → P e → Q e) → IfErr r P → IfErr r Q
+IfErr-weaker (Ok x) P Q then holds = tt
+IfErr-weaker (Err e) P Q then holds = then e holds
+
 -- the refusal of a file that is too long
 pub long-halt : (halt : Halt) (exposed : Option Files) (name : List ℕ) (most : ℕ) (P : List ℕ → List ℕ → Type 0) → IfBadInput halt (λ _. HasMoreThan exposed name most)
     → IfBadInput halt (λ line. line ≡ long_text) → ((line bytes : List ℕ) → line ≡ long_text → most < length bytes → P line bytes)

@@ -1,6 +1,8 @@
 pub mod ArgumentLemmas
 pub mod FileLemmas
 pub mod AnswerLemmas
+pub mod TransitLemmas
+pub mod TransitArguments
 pub mod OneJob
 pub mod ReplyLemmas
 pub mod CommandLemmas

@@ -4,10 +4,11 @@ use Rattle.std.specs.Prelude.{codes}
 use Rattle.std.specs.Str.Parse.{digits_value}
 use Rattle.mass_units.proofs.SpellingLemmas.{digits_value-number_text}
 use Rattle.mass_units.specs.Spelling.{number_text}
-use Rattle.plan_commands.specs.Arguments.{Job, AskFor, usual_looks, usual_stop_budget}
+use Rattle.plan_commands.specs.Arguments.{FlightNames, Job, AskFor, usual_looks, usual_stop_budget}
 use Rattle.plan_answers.specs.Limits.{usual_budget, greatest_priced_budget}
-use Rattle.plan_commands.specs.Arguments.Job.{place, check, best, check_any, priced, check_priced, stops, generate}
-use Rattle.plan_commands.specs.Arguments.AskFor.{place_usually, place_within, check_certificate, best_usually, best_within, check_best, priced_usually, priced_within, check_prices, stops_usually, stops_within, generate_load}
+use Rattle.plan_commands.specs.Arguments.Job.{place, check, best, check_any, priced, check_priced, stops, transit, generate}
+use Rattle.plan_commands.specs.Arguments.AskFor.{place_usually, place_within, check_certificate, best_usually, best_within, check_best, priced_usually, priced_within, check_prices, stops_usually, stops_within, transit_usually, transit_within, transit_task, generate_load}
+use Rattle.transit_answers.specs.declared.answers.TransitQuestion.TheVariants.{BestPlan, TaskAround}
 
 -- the job that a name and one operand ask for, if they ask for one
 one_operand : (name operand : List ℕ) → Job
@@ -29,16 +30,25 @@ two_operands name task other =
     else if bytes_eq name (codes "bestcheck") then check_any task other
     else check_priced task other
 
+flight_names : (task cpm ldm station next : List ℕ) → FlightNames
+flight_names task cpm ldm station next = record { task = task; cpm = cpm; ldm = ldm; station = station; next = next }
+
+-- the same of a name and five operands
+five_operands : (name : List ℕ) (names : FlightNames) → Job
+five_operands name names = if bytes_eq name (codes "transit") then transit names (BestPlan usual_budget) else transit names TaskAround
+
 job_in : List (List ℕ) → Job
 job_in (name ∷ operand ∷ []) = one_operand name operand
 job_in (name ∷ task ∷ other ∷ []) = two_operands name task other
+job_in (name ∷ task ∷ cpm ∷ ldm ∷ station ∷ next ∷ []) = five_operands name (flight_names task cpm ldm station next)
+job_in (name ∷ task ∷ cpm ∷ ldm ∷ station ∷ next ∷ budget ∷ []) = transit (flight_names task cpm ldm station next) (BestPlan (digits_value 10 budget))
 job_in others = generate 0
 
 read_number : (make : ℕ → Job) (n : ℕ) → make (digits_value 10 (number_text n)) ≡ make n
 read_number make n = ap make (digits_value-number_text n)
 
 asked-job : (arguments : List (List ℕ)) (job : Job) → AskFor arguments job → job_in arguments ≡ job
-unfolding job_in one_operand two_operands
+unfolding job_in one_operand two_operands five_operands flight_names
 asked-job arguments _ (place_usually task is) = rw is refl
 asked-job arguments _ (place_within task n is low high) = rw is (read_number (place task) n)
 asked-job arguments _ (check_certificate task certificate is) = rw is refl
@@ -50,6 +60,9 @@ asked-job arguments _ (priced_within task n is low high) = rw is (read_number (p
 asked-job arguments _ (check_prices task certificate is) = rw is refl
 asked-job arguments _ (stops_usually file is) = rw is refl
 asked-job arguments _ (stops_within file n is low high) = rw is (read_number (stops file) n)
+asked-job arguments _ (transit_usually names is stations) = rw is refl
+asked-job arguments _ (transit_within names n is stations low high) = rw is (read_number (λ budget. transit names (BestPlan budget)) n)
+asked-job arguments _ (transit_task names is stations) = rw is refl
 asked-job arguments _ (generate_load n is fits) = rw is (read_number generate n)
 
 pub one_form : (arguments : List (List ℕ)) (a b : Job) → AskFor arguments a → AskFor arguments b → a ≡ b

@@ -1,5 +1,5 @@
 -- Replies to the arguments: there is one job for them, and its input is right or refused, never both.
-use Rattle.std.proofs.Common.{◌≡◌, ◌≢◌, ℕ, List, Option, Some, None, arith, refl, sym, subst}
+use Rattle.std.proofs.Common.{◌∙◌, ◌≡◌, ◌≢◌, ℕ, List, Option, Some, None, arith, refl, sym, subst}
 use Rattle.std.specs.Option.{IsSomeAnd}
 use Rattle.std.specs.Prelude.{All}
 use Rattle.std.proofs.lemmas.List.Elements.{All-weaker}
@@ -19,9 +19,9 @@ use Rattle.certificate.specs.declared.parts.Certificate.{Certificate}
 use Rattle.certificate.proofs.ReadLemmas.{spelled_has_no_fault}
 use Rattle.tree_certificate.specs.Listed.{ListedTrees}
 use Rattle.tree_certificate.proofs.ReadLemmas.{spelled_has_no_fault as trees_have_no_fault}
-use Rattle.plan_answers.specs.declared.reply.Outcome.{Outcome}
-use Rattle.plan_answers.specs.declared.reply.Outcome.TheVariants.{Usage, BadInput}
-use Rattle.plan_commands.specs.Arguments.{Job, IsCommand, AreInvalid}
+use Rattle.task_answers.specs.declared.reply.Outcome.{Outcome}
+use Rattle.task_answers.specs.declared.reply.Outcome.TheVariants.{Usage, BadInput}
+use Rattle.plan_commands.specs.Arguments.{FlightNames, Job, IsCommand, AreInvalid}
 use Rattle.plan_commands.specs.Arguments.Job.{generate}
 use Rattle.plan_answers.specs.ReplyText.{usage_text}
 use Rattle.plan_answers.specs.NearReply.{IsCertificateIn, IsCertificateRefusal, IsPlacing, IsJudgement}
@@ -41,15 +41,27 @@ use Rattle.plan_answers.specs.PricedReply.IsPricedJudgement.{good as good_prices
 use Rattle.plan_answers.specs.StopReply.{IsStopsIn, IsStopRefusal, IsStopPlacing}
 use Rattle.plan_answers.specs.StopReply.IsStopRefusal.{too_long as stops_too_long, no_load}
 use Rattle.plan_answers.specs.StopReply.IsStopPlacing.{plan as stop_plan, nothing_fits as stop_nothing_fits, over_budget as stop_over_budget}
+use Rattle.ldm_cpm.specs.Messages.{LoadMessage, HoldMessage}
+use Rattle.transit_tasks.specs.declared.fault.TransitFault.{TransitFault}
+use Rattle.transit_answers.specs.Flights.{Transit, IsTransitIn, IsTransitFault}
+use Rattle.transit_answers.specs.Flights.IsTransitFault.{of_heads, of_totals, of_staying}
+use Rattle.transit_answers.specs.MessageFiles.{IsCpmIn, IsLdmIn, IsCpmRefusal, IsLdmRefusal}
+use Rattle.transit_answers.specs.MessageFiles.IsCpmRefusal.{too_long as cpm_too_long, no_message as no_cpm}
+use Rattle.transit_answers.specs.MessageFiles.IsLdmRefusal.{too_long as ldm_too_long, no_message as no_ldm}
+use Rattle.transit_answers.specs.TransitReply.{IsTransitPlacing, IsAnswerAbout, IsTransitAnswer}
+use Rattle.transit_answers.specs.TransitReply.IsTransitPlacing.{plan as transit_plan, nothing_fits as transit_nothing_fits, over_budget as transit_over_budget}
+use Rattle.transit_answers.specs.TransitReply.IsAnswerAbout.{placed as placed_around, made}
+use Rattle.transit_answers.specs.declared.answers.TransitQuestion.{TransitQuestion}
 use Rattle.plan_answers.specs.AnyReply.{AnyListed, IsAnyIn, IsAnyRefusal, IsAnyJudgement}
 use Rattle.plan_answers.specs.AnyReply.AnyListed.{of_cuts, of_trees}
 use Rattle.plan_answers.specs.AnyReply.IsAnyRefusal.{too_long as any_too_long, no_cuts, no_trees as none_of_trees}
-use Rattle.plan_commands.specs.Reply.{IsTaskIn, IsRefusal, IsCertificateFile, IsAnyFile, IsPricedFile, IsAnswer, IsAnswerAlone, IsAnswerOver, IsBadInput, NeedsFiles, IsBadInputOver, IsReply, IsReplyOver, HasInput, HaveInput, HaveBadInput, IsAnswered}
+use Rattle.plan_commands.specs.Reply.{IsTaskIn, IsRefusal, IsCertificateFile, IsAnyFile, IsPricedFile, StateTransit, AreRefusedInTransit, IsAnswer, IsAnswerAlone, IsAnswerOver, IsBadInput, NeedsFiles, IsBadInputOver, IsReply, IsReplyOver, HasInput, HaveInput, HaveBadInput, IsAnswered}
 use Rattle.plan_answers.specs.SummaryReply.{IsSummary}
 use Rattle.plan_commands.specs.Reply.IsRefusal.{too_long as task_too_long, no_task}
 use Rattle.plan_answers.specs.SummaryReply.IsSummary.{plan_summed, none_summed, budget_summed}
-use Rattle.plan_commands.specs.Reply.IsAnswer.{placed, judged, placed_by_trees, any_judged, placed_with_prices, prices_judged, placed_over_sectors, summed}
-use Rattle.plan_commands.specs.Reply.IsBadInput.{bad_task, bad_checked_task, bad_certificate, bad_best_task, bad_task_of_any, bad_any, bad_priced_task, bad_task_of_prices, bad_prices, bad_stops}
+use Rattle.plan_commands.specs.Reply.IsAnswer.{placed, judged, placed_by_trees, any_judged, placed_with_prices, prices_judged, placed_over_sectors, answered_in_transit, summed}
+use Rattle.plan_commands.specs.Reply.IsBadInput.{bad_task, bad_checked_task, bad_certificate, bad_best_task, bad_task_of_any, bad_any, bad_priced_task, bad_task_of_prices, bad_prices, bad_stops, bad_transit}
+use Rattle.plan_commands.specs.Reply.AreRefusedInTransit.{wrong_task, wrong_cpm, wrong_ldm, no_transit}
 use Rattle.plan_commands.specs.Reply.IsReply.{answered, refused, usage}
 use Rattle.plan_commands.specs.Reply.IsAnswered.{is_done, is_nothing_fits, is_over_budget, is_undecided, is_rejected}
 use Rattle.plan_commands.proofs.OneJob.{one_form}
@@ -109,6 +121,49 @@ stops-not_refused bytes _ t right (no_load fault line short why is) =
     let none : fault ≡ stop.NoMemory = load_not_refused bytes right.file fault right.spelled right.tasks lawful why in
     rw none at is
 
+cpm-not_refused : (bytes line : List ℕ) (m : HoldMessage) → IsCpmIn bytes m → IsCpmRefusal bytes line → ⊥
+cpm-not_refused bytes _ m right (cpm_too_long long) = absurd (omega (arith, right.short))
+cpm-not_refused bytes _ m right (no_cpm fault line short none why is) = none m right.is
+
+ldm-not_refused : (bytes line : List ℕ) (m : LoadMessage) → IsLdmIn bytes m → IsLdmRefusal bytes line → ⊥
+ldm-not_refused bytes _ m right (ldm_too_long long) = absurd (omega (arith, right.short))
+ldm-not_refused bytes _ m right (no_ldm fault line short none why is) = none m right.is
+
+-- messages that agree, of a flight of which nothing is wrong, have no fault
+transit-no_fault : (station : List ℕ) (t : Problem) (cpm : HoldMessage) (ldm : LoadMessage) (flight : Transit) (fault : TransitFault)
+    → IsTransitIn station t cpm ldm flight → IsTransitFault station t cpm ldm fault → ⊥
+transit-no_fault station t cpm ldm flight _ stated (of_heads differ) = differ stated.agree.heading
+transit-no_fault station t cpm ldm flight _ stated (of_totals heading differ) = differ stated.agree.mass
+transit-no_fault station t cpm ldm flight _ stated (of_staying fault agree is) = let e = sym stated.right ∙ is in cc
+
+-- the files of a flight in transit are not refused where they state one
+transit-not_refused : (files : Files) (names : FlightNames) (line : List ℕ) (flight : Transit) → StateTransit files names flight
+    → AreRefusedInTransit files names line → ⊥
+transit-not_refused files names _ flight right (wrong_task line wrong) =
+    both (files names.task) (λ bytes. IsTaskIn bytes right.t) (λ bytes. IsRefusal bytes line) right.files.task wrong
+    (λ bytes task refusal. task-not_refused bytes line right.t task refusal)
+transit-not_refused files names _ flight right (wrong_cpm t line task wrong) =
+    both (files names.cpm) (λ bytes. IsCpmIn bytes right.cpm) (λ bytes. IsCpmRefusal bytes line) right.files.cpm wrong
+    (λ bytes cpm refusal. cpm-not_refused bytes line right.cpm cpm refusal)
+transit-not_refused files names _ flight right (wrong_ldm t cpm line task container wrong) =
+    both (files names.ldm) (λ bytes. IsLdmIn bytes right.ldm) (λ bytes. IsLdmRefusal bytes line) right.files.ldm wrong
+    (λ bytes ldm refusal. ldm-not_refused bytes line right.ldm ldm refusal)
+transit-not_refused files names _ flight right (no_transit t cpm ldm line are refusal) =
+    both (files names.task) (λ bytes. IsTaskIn bytes right.t) (λ bytes. IsTaskIn bytes t) right.files.task are.task
+    (λ _ task other_task.
+    both (files names.cpm) (λ bytes. IsCpmIn bytes right.cpm) (λ bytes. IsCpmIn bytes cpm) right.files.cpm are.cpm
+    (λ _ container other_container.
+    both (files names.ldm) (λ bytes. IsLdmIn bytes right.ldm) (λ bytes. IsLdmIn bytes ldm) right.files.ldm are.ldm
+    (λ _ load other_load.
+    let same_task : right.t ≡ t = spelled_once _ right.t t task.spelled other_task.spelled in
+    let same_cpm : right.cpm ≡ cpm = container.alone cpm other_container.is in
+    let same_ldm : right.ldm ≡ ldm = load.alone ldm other_load.is in
+    let stated : IsTransitIn names.station t cpm ldm flight =
+    subst (λ (m : LoadMessage). IsTransitIn names.station t cpm m flight) same_ldm
+    (subst (λ (m : HoldMessage). IsTransitIn names.station t m right.ldm flight) same_cpm
+    (subst (λ (p : Problem). IsTransitIn names.station p right.cpm right.ldm flight) same_task right.stated)) in
+    transit-no_fault names.station t cpm ldm flight refusal.fault stated refusal.first)))
+
 -- the files of a job are not refused where they are right
 right-not_bad : (files : Files) (job : Job) (line : List ℕ) → IsBadInput files job line → HasInput files job → ⊥
 right-not_bad files _ _ (bad_task task budget line wrong) input =
@@ -144,6 +199,7 @@ right-not_bad files _ _ (bad_prices task certificate t line there wrong) input =
     both (files certificate) (λ bytes. IsPricedIn t bytes input.1) (λ bytes. IsPricedRefusal t bytes line)
     (subst (λ (p : Problem). IsPricedFile files certificate p input.1) same input.3) wrong
     (λ evidence whole refusal. prices-not_refused t evidence line input.1 (names bytes t other) whole refusal))
+right-not_bad files _ _ (bad_transit names question line wrong) input = transit-not_refused files names line input.0 input.1 wrong
 right-not_bad files _ _ (bad_stops file budget line wrong) input =
     both (files file) (λ bytes. IsStopsIn bytes input.0) (λ bytes. IsStopRefusal bytes line) input.1 wrong (λ bytes right refusal. stops-not_refused bytes line input.0 right refusal)
 
@@ -192,6 +248,21 @@ stop-placing-answered t budget _ _ (stop_plan path best enough) = is_done
 stop-placing-answered t budget _ _ (stop_nothing_fits none enough) = is_nothing_fits
 stop-placing-answered t budget _ _ (stop_over_budget more) = is_over_budget
 
+transit-placing-answered : (flight : Transit) (next : List ℕ) (budget : ℕ) (outcome : Outcome) (text : List ℕ) → IsTransitPlacing flight next budget outcome text
+    → IsAnswered outcome
+transit-placing-answered flight next budget _ _ (transit_plan path c message best claim is onward) = is_done
+transit-placing-answered flight next budget _ _ (transit_nothing_fits text is) = is_nothing_fits
+transit-placing-answered flight next budget _ _ (transit_over_budget text is) = is_over_budget
+
+about-answered : (flight : Transit) (next : List ℕ) (question : TransitQuestion) (outcome : Outcome) (text : List ℕ)
+    → IsAnswerAbout flight next question outcome text → IsAnswered outcome
+about-answered flight next _ _ _ (placed_around budget outcome text is) = transit-placing-answered flight next budget outcome text is
+about-answered flight next _ _ _ (made text is) = is_done
+
+pub transit-answered : (flight : Transit) (next : List ℕ) (question : TransitQuestion) (outcome : Outcome) (text : List ℕ)
+    → IsTransitAnswer flight next question outcome text → IsAnswered outcome
+transit-answered flight next question outcome text is = about-answered flight next question outcome text is.answer
+
 answer-answered : (files : Files) (job : Job) (outcome : Outcome) (text : List ℕ) → IsAnswer files job outcome text → IsAnswered outcome
 answer-answered files _ _ _ (placed task budget t outcome text file is) = placing-answered t budget outcome text is
 answer-answered files _ _ _ (judged task certificate t c outcome text file evidence is) = judgement-answered t c outcome text is
@@ -200,6 +271,7 @@ answer-answered files _ _ _ (any_judged task certificate t c outcome text file e
 answer-answered files _ _ _ (placed_with_prices task budget t outcome text file is) = priced-placing-answered t budget outcome text is
 answer-answered files _ _ _ (prices_judged task certificate t c outcome text file evidence is) = priced-judgement-answered t c outcome text is
 answer-answered files _ _ _ (placed_over_sectors file budget t outcome text read is) = stop-placing-answered t budget outcome text is
+answer-answered files _ _ _ (answered_in_transit names question flight outcome text stated is) = transit-answered flight names.next question outcome text is
 answer-answered files _ _ _ (summed number outcome text is) = summary-answered number outcome text is
 
 answer-input : (files : Files) (job : Job) (outcome : Outcome) (text : List ℕ) → IsAnswer files job outcome text → HasInput files job
@@ -210,6 +282,7 @@ answer-input files _ _ _ (any_judged task certificate t c outcome text file evid
 answer-input files _ _ _ (placed_with_prices task budget t outcome text file is) = (t, file)
 answer-input files _ _ _ (prices_judged task certificate t c outcome text file evidence is) = (t, c, file, evidence)
 answer-input files _ _ _ (placed_over_sectors file budget t outcome text read is) = (t, read)
+answer-input files _ _ _ (answered_in_transit names question flight outcome text stated is) = (flight, stated)
 answer-input files _ _ _ (summed number outcome text is) = tt
 
 pub answered-not_usage : (outcome : Outcome) → IsAnswered outcome → outcome ≢ Usage

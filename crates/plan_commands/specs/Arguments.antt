@@ -1,8 +1,11 @@
 -- The arguments of the program.
-use Rattle.std.specs.Prelude.{◌≡◌, ℕ, ◌<◌, ◌≤◌, ◌^◌, List, [], ◌∷◌, All, take, map, codes, String, string_bytes}
+use Rattle.std.specs.Prelude.{◌≡◌, ℕ, ◌<◌, ◌≤◌, ◌^◌, true, List, [], ◌∷◌, ◌++◌, All, take, map, codes, String, string_bytes}
 use Rattle.std.specs.declared.alloc.Global.{Global}
 use Rattle.mass_units.specs.Spelling.{number_text}
+use Rattle.flight_state.specs.Spellings.{is_station}
 use Rattle.plan_answers.specs.Limits.{usual_budget, greatest_budget, greatest_priced_budget}
+use Rattle.transit_answers.specs.declared.answers.TransitQuestion.{TransitQuestion}
+use Rattle.transit_answers.specs.declared.answers.TransitQuestion.TheVariants.{BestPlan, TaskAround}
 
 -- the bytes of each argument
 abbrev pub arguments_of : List (String Global) → List (List ℕ)
@@ -25,6 +28,22 @@ usual_stop_budget = 2000
 abbrev pub greatest_stop_budget : ℕ
 greatest_stop_budget = 5000
 
+-- the files of a flight in transit with its task and its inbound messages, the station where it is, and the next one
+pub record FlightNames : Type 0 where
+  pub task : List ℕ
+  pub cpm : List ℕ
+  pub ldm : List ℕ
+  pub station : List ℕ
+  pub next : List ℕ
+
+-- the same as arguments
+abbrev pub words_of : FlightNames → List (List ℕ)
+words_of names = names.task ∷ names.cpm ∷ names.ldm ∷ names.station ∷ names.next ∷ []
+
+pub record HaveStations (names : FlightNames) : Type 0 where
+  pub station : is_station names.station ≡ true
+  pub next : is_station names.next ≡ true
+
 -- what the program can be asked for
 pub data Job : Type 0 where
   -- the best placement of the task in a file, with a budget
@@ -41,6 +60,8 @@ pub data Job : Type 0 where
   check_priced : (task certificate : List ℕ) → Job
   -- the best placement of the load over several sectors in a file, with a budget
   stops : (file : List ℕ) (budget : ℕ) → Job
+  -- what is asked about the flight in transit that three files state
+  transit : (names : FlightNames) (question : TransitQuestion) → Job
   -- the placement of the load that is made from a number
   generate : (number : ℕ) → Job
 
@@ -75,6 +96,15 @@ pub data AskFor (arguments : List (List ℕ)) : Job → Type 0 where
   -- `stops FILE BUDGET`
   stops_within : (file : List ℕ) (budget : ℕ) → arguments ≡ codes "stops" ∷ file ∷ number_text budget ∷ [] → 1 ≤ budget → budget ≤ greatest_stop_budget
       → AskFor arguments (stops file budget)
+  -- `transit TASK CPM LDM STATION NEXT`
+  transit_usually : (names : FlightNames) → arguments ≡ codes "transit" ∷ words_of names → HaveStations names
+      → AskFor arguments (transit names (BestPlan usual_budget))
+  -- `transit TASK CPM LDM STATION NEXT BUDGET`
+  transit_within : (names : FlightNames) (budget : ℕ) → arguments ≡ codes "transit" ∷ (words_of names ++ number_text budget ∷ []) → HaveStations names
+      → 1 ≤ budget → budget ≤ greatest_budget → AskFor arguments (transit names (BestPlan budget))
+  -- `transittask TASK CPM LDM STATION NEXT`
+  transit_task : (names : FlightNames) → arguments ≡ codes "transittask" ∷ words_of names → HaveStations names
+      → AskFor arguments (transit names TaskAround)
   -- `gen NUMBER`
   generate_load : (number : ℕ) → arguments ≡ codes "gen" ∷ number_text number ∷ [] → number < 2 ^ 32 → AskFor arguments (generate number)
 

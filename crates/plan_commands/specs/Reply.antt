@@ -9,10 +9,10 @@ use Rattle.certificate.specs.declared.parts.Certificate.{Certificate}
 use Rattle.priced_certificate.specs.declared.parts.PricedCertificate.{PricedCertificate}
 use Rattle.stop_tasks.specs.Stops.{Stops}
 use Rattle.load_io.specs.Shelf.{Files}
-use Rattle.plan_answers.specs.declared.reply.Outcome.{Outcome}
-use Rattle.plan_answers.specs.declared.reply.Outcome.TheVariants.{Done, Usage, BadInput, NothingFits, OverBudget, Undecided, Rejected}
-use Rattle.plan_commands.specs.Arguments.{Job, IsCommand, AreInvalid}
-use Rattle.plan_commands.specs.Arguments.Job.{place, check, best, check_any, priced, check_priced, stops, generate}
+use Rattle.task_answers.specs.declared.reply.Outcome.{Outcome}
+use Rattle.task_answers.specs.declared.reply.Outcome.TheVariants.{Done, Usage, BadInput, NothingFits, OverBudget, Undecided, Rejected}
+use Rattle.plan_commands.specs.Arguments.{FlightNames, Job, IsCommand, AreInvalid}
+use Rattle.plan_commands.specs.Arguments.Job.{place, check, best, check_any, priced, check_priced, stops, transit, generate}
 use Rattle.plan_answers.specs.ReplyText.{IsFaultLine, long_text, usage_text}
 use Rattle.plan_answers.specs.Limits.{longest_task}
 use Rattle.plan_answers.specs.NearReply.{IsCertificateIn, IsCertificateRefusal, IsPlacing, IsJudgement}
@@ -21,6 +21,11 @@ use Rattle.plan_answers.specs.PricedReply.{IsPricedIn, IsPricedRefusal, IsPriced
 use Rattle.plan_answers.specs.StopReply.{IsStopsIn, IsStopRefusal, IsStopPlacing}
 use Rattle.plan_answers.specs.AnyReply.{AnyListed, IsAnyIn, IsAnyRefusal, IsAnyJudgement}
 use Rattle.plan_answers.specs.SummaryReply.{IsSummary}
+use Rattle.ldm_cpm.specs.Messages.{LoadMessage, HoldMessage}
+use Rattle.transit_answers.specs.Flights.{Transit, IsTransitIn}
+use Rattle.transit_answers.specs.MessageFiles.{IsCpmIn, IsLdmIn, IsCpmRefusal, IsLdmRefusal, IsTransitRefusal}
+use Rattle.transit_answers.specs.TransitReply.{IsTransitAnswer}
+use Rattle.transit_answers.specs.declared.answers.TransitQuestion.{TransitQuestion}
 
 -- Files -----------------------------------------------------------------------------------------
 
@@ -73,6 +78,42 @@ IsStopsFile files name t = Holds files name (λ bytes. IsStopsIn bytes t)
 abbrev pub IsRefusedStopsFile : Files → List ℕ → List ℕ → Type 0
 IsRefusedStopsFile files name line = Holds files name (λ bytes. IsStopRefusal bytes line)
 
+abbrev pub IsCpmFile : Files → List ℕ → HoldMessage → Type 0
+IsCpmFile files name m = Holds files name (λ bytes. IsCpmIn bytes m)
+
+abbrev pub IsRefusedCpm : Files → List ℕ → List ℕ → Type 0
+IsRefusedCpm files name line = Holds files name (λ bytes. IsCpmRefusal bytes line)
+
+abbrev pub IsLdmFile : Files → List ℕ → LoadMessage → Type 0
+IsLdmFile files name m = Holds files name (λ bytes. IsLdmIn bytes m)
+
+abbrev pub IsRefusedLdm : Files → List ℕ → List ℕ → Type 0
+IsRefusedLdm files name line = Holds files name (λ bytes. IsLdmRefusal bytes line)
+
+-- the files hold a task and two inbound messages
+pub record AreTransitFiles (files : Files) (names : FlightNames) (t : Problem) (inbound : HoldMessage) (load : LoadMessage) : Type 0 where
+  pub task : IsTaskFile files names.task t
+  pub cpm : IsCpmFile files names.cpm inbound
+  pub ldm : IsLdmFile files names.ldm load
+
+-- they state this flight in transit
+pub record StateTransit (shelf : Files) (names : FlightNames) (flight : Transit) : Type 0 where
+  pub t : Problem
+  pub cpm : HoldMessage
+  pub ldm : LoadMessage
+  pub files : AreTransitFiles shelf names t cpm ldm
+  pub stated : IsTransitIn names.station t cpm ldm flight
+
+-- the files of a flight in transit are refused with this line, in the order in which they are read
+pub data AreRefusedInTransit (files : Files) (names : FlightNames) : List ℕ → Type 0 where
+  wrong_task : (line : List ℕ) → IsRefusedTask files names.task line → AreRefusedInTransit files names line
+  wrong_cpm : (t : Problem) (line : List ℕ) → IsTaskFile files names.task t → IsRefusedCpm files names.cpm line → AreRefusedInTransit files names line
+  wrong_ldm : (t : Problem) (cpm : HoldMessage) (line : List ℕ) → IsTaskFile files names.task t → IsCpmFile files names.cpm cpm
+      → IsRefusedLdm files names.ldm line → AreRefusedInTransit files names line
+  -- each is right, and together they state no flight in transit
+  no_transit : (t : Problem) (cpm : HoldMessage) (ldm : LoadMessage) (line : List ℕ) → AreTransitFiles files names t cpm ldm
+      → IsTransitRefusal names.station t cpm ldm line → AreRefusedInTransit files names line
+
 -- Answers ---------------------------------------------------------------------------------------
 
 -- the answer to a job whose files are there and right
@@ -91,6 +132,8 @@ pub data IsAnswer (files : Files) : Job → Outcome → List ℕ → Type 0 wher
       → IsPricedFile files certificate t c → IsPricedJudgement t c outcome text → IsAnswer files (check_priced task certificate) outcome text
   placed_over_sectors : (file : List ℕ) (budget : ℕ) (t : Stops) (outcome : Outcome) (text : List ℕ) → IsStopsFile files file t
       → IsStopPlacing t budget outcome text → IsAnswer files (stops file budget) outcome text
+  answered_in_transit : (names : FlightNames) (question : TransitQuestion) (flight : Transit) (outcome : Outcome) (text : List ℕ) → StateTransit files names flight
+      → IsTransitAnswer flight names.next question outcome text → IsAnswer files (transit names question) outcome text
   summed : (number : ℕ) (outcome : Outcome) (text : List ℕ) → IsSummary number outcome text → IsAnswer files (generate number) outcome text
 
 -- the first file of a job that is refused, and its line
@@ -108,6 +151,8 @@ pub data IsBadInput (files : Files) : Job → List ℕ → Type 0 where
   bad_prices : (task certificate : List ℕ) (t : Problem) (line : List ℕ) → IsTaskFile files task t → IsRefusedPriced files certificate t line
       → IsBadInput files (check_priced task certificate) line
   bad_stops : (file : List ℕ) (budget : ℕ) (line : List ℕ) → IsRefusedStopsFile files file line → IsBadInput files (stops file budget) line
+  bad_transit : (names : FlightNames) (question : TransitQuestion) (line : List ℕ) → AreRefusedInTransit files names line
+      → IsBadInput files (transit names question) line
 
 -- the reply to the arguments: an outcome and its text
 pub data IsReply (arguments : List (List ℕ)) (files : Files) : Outcome → List ℕ → Type 0 where
@@ -151,6 +196,7 @@ HasInput files (check_any task certificate) = (t : Problem) × (c : AnyListed) �
 HasInput files (priced task budget) = (t : Problem) × IsTaskFile files task t
 HasInput files (check_priced task certificate) = (t : Problem) × (c : PricedCertificate) × IsTaskFile files task t × IsPricedFile files certificate t c
 HasInput files (stops file budget) = (t : Stops) × IsStopsFile files file t
+HasInput files (transit names question) = (flight : Transit) × StateTransit files names flight
 HasInput files (generate number) = Unit {0}
 
 -- the arguments are a command whose files are there and right

@@ -3,8 +3,8 @@ use Rattle.std.specs.Prelude.{◌≡◌, ◌≢◌, ℕ, List, Option, Some, Res
 use Rattle.base_words.specs.Faults.{Rose}
 use Rattle.load_io.specs.Shelf.{Files}
 use Rattle.load_io.specs.Sink.{Appends, AppendsPart}
-use Rattle.plan_answers.specs.declared.reply.Outcome.{Outcome}
-use Rattle.plan_answers.specs.declared.reply.Outcome.TheVariants.{Done, Usage, BadInput, NothingFits, OverBudget, Undecided, Rejected}
+use Rattle.task_answers.specs.declared.reply.Outcome.{Outcome}
+use Rattle.task_answers.specs.declared.reply.Outcome.TheVariants.{Done, Usage, BadInput, NothingFits, OverBudget, Undecided, Rejected}
 use Rattle.plan_commands.specs.declared.ending.Stop.{Stop}
 use Rattle.plan_commands.specs.declared.ending.Stop.TheVariants.{ReadFault, WriteFault, NoMemory}
 use Rattle.plan_commands.specs.Arguments.{AreInvalid}

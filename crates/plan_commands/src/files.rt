@@ -41,7 +41,7 @@ fn too_long(alloc: Global) -> Halt
 }
 
 /// The bytes of a file, which are at most so many.
-fn bytes_from<F: Shelf>(
+pub fn bytes_from<F: Shelf>(
     alloc: Global,
     shelf: &mut F,
     name: &str,

@@ -9,6 +9,7 @@ ghost use Rattle.plan_commands.specs.Reply.{IsAnswerOver, IsAnswered, IsBadInput
 use crate::arguments::Command;
 use crate::ending::Halt;
 use crate::files::{any_from, certificate_from, priced_from, stops_from, task_from};
+use crate::transit_files::answer_in_transit_from;
 use load_io::Shelf;
 use placer::Placing;
 use plan_answers::{
@@ -20,20 +21,20 @@ use std::alloc::Global;
 /// The answer to a command. Its files are read in the order of the arguments.
 pub fn answer_to<F: Shelf, P: Placing>(
     alloc: Global,
-    command: Command<'_>,
+    command: &Command<'_>,
     shelf: &mut F,
     placing: &P,
 ) -> Result<Reply, Halt>
     ensures answered { IfOk result (λ reply.
-        IsAnswerOver (F.files shelf.old) (job_of command.entry) reply.outcome reply.text.items) }
+        IsAnswerOver (F.files shelf.old) (job_of command.now) reply.outcome reply.text.items) }
     ensures answers { IfOk result (λ reply. IsAnswered reply.outcome) }
     ensures refused { IfErr result (λ halt. IfBadInput halt
-        (IsBadInputOver (F.files shelf.old) (job_of command.entry))) }
+        (IsBadInputOver (F.files shelf.old) (job_of command.now))) }
     ensures counted { result ≡ Err Halt.ReadFault → Rose (F.faults shelf.old) (F.faults shelf.new) }
     ensures uncounted { result ≢ Err Halt.ReadFault → F.faults shelf.new ≡ F.faults shelf.old }
     ensures same { F.files shelf.new ≡ F.files shelf.old }
 {
-    match command {
+    match *command {
         Command::Place { task, budget } => {
             let task = task_from(alloc, shelf, task)?;
             Ok(placement(alloc, &task, budget, placing)?)
@@ -65,6 +66,10 @@ pub fn answer_to<F: Shelf, P: Placing>(
             let stops = stops_from(alloc, shelf, file)?;
             Ok(placing_over_sectors(alloc, &stops, budget)?)
         }
+        Command::Transit {
+            ref names,
+            ref question,
+        } => answer_in_transit_from(alloc, shelf, names, *question, placing),
         Command::Generate { number } => Ok(summary(alloc, number, placing)?),
     }
 }

@@ -1,5 +1,5 @@
-//! The commands about one task, or about one load over several sectors: from their arguments to the reply that is
-//! printed and the exit status.
+//! The commands about one task, about one load over several sectors, or about one flight in transit: from their arguments
+//! to the reply that is printed and the exit status.
 #![tactic(auto)]
 
 mod arguments;
@@ -8,6 +8,7 @@ mod files;
 mod first_words;
 mod jobs;
 mod printing;
+mod transit_files;
 
 pub use arguments::{Command, are_plain, command_of};
 pub use ending::Stop;

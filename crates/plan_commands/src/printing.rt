@@ -1,6 +1,7 @@
 //! The reply to a command, and its printing.
 
 ghost use Rattle.std.specs.Prelude.{◌≡◌, ◌≢◌, ℕ, List, None, Err, IfOk};
+ghost use Rattle.std.specs.Option.{option_copied};
 ghost use Rattle.base_words.specs.Faults.{Rose};
 ghost use Rattle.plan_commands.specs.Arguments.{arguments_of};
 ghost use Rattle.plan_commands.specs.Commands.{AreCommand};
@@ -20,11 +21,11 @@ use std::alloc::Global;
 /// the arguments.
 fn reply_to<F: Shelf, P: Placing>(
     alloc: Global,
-    command: Option<Command<'_>>,
+    command: Option<&Command<'_>>,
     shelf: &mut F,
     placing: &P,
 ) -> Result<Reply, Stop>
-    ensures replied { (arguments : List (List ℕ)) → AreCommand arguments command.entry
+    ensures replied { (arguments : List (List ℕ)) → AreCommand arguments (option_copied command.entry)
         → IfOk result (λ reply. IsReplyOver arguments (F.files shelf.old) reply.outcome reply.text.items) }
     ensures usage { IfOk result (λ reply. reply.outcome ≡ Outcome.Usage → (command.entry ≡ None) × (reply.text.items ≡ usage_text)) }
     ensures invalid { command.entry ≡ None → IfOk result (λ reply. reply.outcome ≡ Outcome.Usage) }
@@ -54,12 +55,12 @@ fn reply_to<F: Shelf, P: Placing>(
 /// Prints the reply to a command, or to invalid arguments.
 fn print_reply<F: Shelf, O: Sink, P: Placing>(
     alloc: Global,
-    command: Option<Command<'_>>,
+    command: Option<&Command<'_>>,
     shelf: &mut F,
     out: &mut O,
     placing: &P,
 ) -> Result<Outcome, Stop>
-    ensures { (arguments : List (List ℕ)) → AreCommand arguments command.entry → IsRun arguments
+    ensures { (arguments : List (List ℕ)) → AreCommand arguments (option_copied command.entry) → IsRun arguments
         (outside (F.files shelf.old) (F.faults shelf.old) (O.content out.old) (O.faults out.old))
         (outside (F.files shelf.new) (F.faults shelf.new) (O.content out.new) (O.faults out.new))
         result }
@@ -93,12 +94,12 @@ pub fn exit_status(ending: Result<Outcome, Stop>) -> u8
 /// printed except on `out`.
 pub fn run_command<F: Shelf, O: Sink, P: Placing>(
     alloc: Global,
-    command: Option<Command<'_>>,
+    command: Option<&Command<'_>>,
     shelf: &mut F,
     out: &mut O,
     placing: &P,
 ) -> u8
-    ensures { (arguments : List (List ℕ)) → AreCommand arguments command.entry → ExitsWith arguments
+    ensures { (arguments : List (List ℕ)) → AreCommand arguments (option_copied command.entry) → ExitsWith arguments
         (outside (F.files shelf.old) (F.faults shelf.old) (O.content out.old) (O.faults out.old))
         (outside (F.files shelf.new) (F.faults shelf.new) (O.content out.new) (O.faults out.new))
         result }
@@ -119,5 +120,6 @@ pub fn print<F: Shelf, O: Sink, P: Placing>(
         (outside (F.files shelf.new) (F.faults shelf.new) (O.content out.new) (O.faults out.new))
         result }
 {
-    run_command(alloc, command_of(arguments), shelf, out, placing)
+    let command = command_of(arguments);
+    run_command(alloc, command.as_ref(), shelf, out, placing)
 }

@@ -151,3 +151,11 @@ returns-in_ok-placing_over_sectors-in-Stops-clause-answered g c =
 
 pub returns-in_ok-placing_over_sectors-in-Stops-clause-answers : goal.returns-in_ok-placing_over_sectors-in-Stops-clause-answers
 returns-in_ok-placing_over_sectors-in-Stops-clause-answers g c = stop-placing-answered _ _ _ _ c.in_ok-placing_over_sectors-in-Stops.ensures
+
+-- Commands for a flight in transit --------------------------------------------------------------
+
+pub returns-in-Transit-clause-answered : goal.returns-in-Transit-clause-answered
+returns-in-Transit-clause-answered g c = rw c.in-Transit.is c.answer_in_transit_from.ensures.answered
+
+pub returns-in-Transit-clause-refused : goal.returns-in-Transit-clause-refused
+returns-in-Transit-clause-refused g c = rw c.in-Transit.is c.answer_in_transit_from.ensures.refused

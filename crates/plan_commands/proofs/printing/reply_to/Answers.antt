@@ -10,7 +10,7 @@ returns-in_default-clause-replied g c arguments are =
 
 pub returns-in-Ok-clause-replied : goal.returns-in-Ok-clause-replied
 returns-in-Ok-clause-replied g c arguments are =
-    answered-reply arguments (g.F.Shelf.files c.args.shelf.now) (job_of c.in-Some.command) _ _
+    answered-reply arguments (g.F.Shelf.files c.args.shelf.now) (job_of c.in-Some.command.now) _ _
     (some-command arguments c.args.command c.in-Some.command are (search rules)) c.in-Ok.ensures.answered
 
 pub returns-in-Ok-clause-usage : goal.returns-in-Ok-clause-usage
@@ -19,5 +19,5 @@ returns-in-Ok-clause-usage g c = λ is. absurd (answered-not_usage c.in-Ok.reply
 pub returns-in-Err-BadInput-clause-replied : goal.returns-in-Err-BadInput-clause-replied
 returns-in-Err-BadInput-clause-replied g c arguments are =
     let wrong = rw c.in-Err-BadInput.field-0-is at c.in-Err-BadInput.ensures.refused in
-    refused-reply arguments (g.F.Shelf.files c.args.shelf.now) (job_of c.in-Some.command) c.in-Err-BadInput.text.items
+    refused-reply arguments (g.F.Shelf.files c.args.shelf.now) (job_of c.in-Some.command.now) c.in-Err-BadInput.text.items
     (some-command arguments c.args.command c.in-Some.command are (search rules)) wrong

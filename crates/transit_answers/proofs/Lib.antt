@@ -1,0 +1,2 @@
+pub mod FlightLemmas
+pub mod AnswerLemmas
