@@ -1,5 +1,5 @@
-//! `loadctl` without the desk: the commands about one task or one load alone. It starts sooner, so `./loadctl` runs it
-//! where nothing is proved yet.
+//! `loadctl` without the desk: the commands about a task, a load or a flight in transit alone. It starts sooner, so
+//! `./loadctl` runs it where nothing is proved yet.
 #![tactic(auto)]
 
 use load_io::{FileShelf, StdSink};
