@@ -1,0 +1,4 @@
+pub mod PartLemmas
+pub mod LawfulHolds
+pub mod LawfulTasks
+pub mod LawLemmas
