@@ -1,0 +1,4 @@
+pub mod Pieces
+pub mod DecisionLemmas
+pub mod LimitLemmas
+pub mod LooserLemmas
