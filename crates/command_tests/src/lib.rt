@@ -16,3 +16,5 @@ mod stops;
 mod transit;
 #[cfg(test)]
 mod trees;
+#[cfg(test)]
+mod why;

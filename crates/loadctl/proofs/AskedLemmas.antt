@@ -4,7 +4,7 @@ use Rattle.std.specs.Prelude.{codes}
 use Rattle.plan_commands.specs.declared.arguments.Command.{Command}
 use Rattle.plan_commands.specs.Arguments.{Job, AskFor, IsCommand, AreInvalid, arguments_of}
 use Rattle.plan_commands.specs.Commands.{job_of}
-use Rattle.plan_commands.specs.Arguments.AskFor.{place_usually, place_within, check_certificate, best_usually, best_within, check_best, priced_usually, priced_within, check_prices, stops_usually, stops_within, transit_usually, transit_within, transit_task, generate_load}
+use Rattle.plan_commands.specs.Arguments.AskFor.{place_usually, place_within, check_certificate, best_usually, best_within, why_usually, why_within, check_best, priced_usually, priced_within, check_prices, stops_usually, stops_within, transit_usually, transit_within, transit_task, generate_load}
 use Rattle.loadctl.specs.Desk.{AskForDesk}
 use Rattle.loadctl.specs.Serve.{AskForServe, AskForNoServe}
 use Rattle.loadctl.specs.declared.asked.AskedDesk.{AskedDesk}
@@ -36,6 +36,8 @@ module _ (arguments : List (List ℕ)) where
   command-asks _ (check_certificate task c is) = ap asks_for is
   command-asks _ (best_usually task is) = ap asks_for is
   command-asks _ (best_within task n is low high) = ap asks_for is
+  command-asks _ (why_usually task is) = ap asks_for is
+  command-asks _ (why_within task n is low high) = ap asks_for is
   command-asks _ (check_best task c is) = ap asks_for is
   command-asks _ (priced_usually task is) = ap asks_for is
   command-asks _ (priced_within task n is low high) = ap asks_for is

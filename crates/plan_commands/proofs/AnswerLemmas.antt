@@ -9,17 +9,18 @@ use Rattle.task_answers.specs.declared.reply.Outcome.{Outcome}
 use Rattle.plan_commands.specs.declared.ending.Halt.{Halt}
 use Rattle.plan_commands.specs.declared.ending.Halt.TheVariants.{BadInput, ReadFault, NoMemory}
 use Rattle.plan_commands.specs.Halts.{IfBadInput}
-use Rattle.plan_commands.specs.Arguments.Job.{place, check, best, check_any, priced, check_priced, stops, generate}
+use Rattle.plan_commands.specs.Arguments.Job.{place, check, best, why, check_any, priced, check_priced, stops, generate}
 use Rattle.plan_answers.specs.NearReply.{IsPlacing, IsJudgement}
 use Rattle.plan_answers.specs.TreeReply.{IsTreePlacing}
+use Rattle.plan_reasons.specs.Explanation.{IsExplanation}
 use Rattle.priced_certificate.specs.declared.parts.PricedCertificate.{PricedCertificate}
 use Rattle.plan_answers.specs.PricedReply.{IsPricedPlacing, IsPricedJudgement}
 use Rattle.plan_answers.specs.StopReply.{IsStopPlacing}
 use Rattle.plan_answers.specs.AnyReply.{AnyListed, IsAnyJudgement}
 use Rattle.plan_commands.specs.Reply.{IsTaskFile, IsRefusedTask, IsCertificateFile, IsRefusedCertificate, IsAnyFile, IsRefusedAny, IsPricedFile, IsRefusedPriced, IsStopsFile, IsRefusedStopsFile, IsAnswer, IsBadInput, IsAnswerOver, IsBadInputOver}
 use Rattle.plan_answers.specs.SummaryReply.{IsSummary}
-use Rattle.plan_commands.specs.Reply.IsAnswer.{placed, judged, placed_by_trees, any_judged, placed_with_prices, prices_judged, placed_over_sectors, summed}
-use Rattle.plan_commands.specs.Reply.IsBadInput.{bad_task, bad_checked_task, bad_certificate, bad_best_task, bad_task_of_any, bad_any, bad_priced_task, bad_task_of_prices, bad_prices, bad_stops}
+use Rattle.plan_commands.specs.Reply.IsAnswer.{placed, judged, placed_by_trees, explained, any_judged, placed_with_prices, prices_judged, placed_over_sectors, summed}
+use Rattle.plan_commands.specs.Reply.IsBadInput.{bad_task, bad_checked_task, bad_certificate, bad_best_task, bad_task_of_why, bad_task_of_any, bad_any, bad_priced_task, bad_task_of_prices, bad_prices, bad_stops}
 
 over : (exposed : Option Files) (Hidden : Type 0) (P Q : Files → Type 0) → IfSome exposed P → Hidden → ((files : Files) → P files → Q files) → MatchOption exposed Hidden Q
 over None Hidden P Q holds hidden then = hidden
@@ -77,6 +78,11 @@ pub placed-by_trees-answer : (exposed : Option Files) (task : List ℕ) (looks :
 placed-by_trees-answer exposed task looks t outcome text file is =
     over exposed (Unit {0}) (λ files. IsTaskFile files task t) (λ files. IsAnswer files (best task looks) outcome text) file tt (λ files there. placed_by_trees task looks t outcome text there is)
 
+pub explained-answer : (exposed : Option Files) (task : List ℕ) (looks : ℕ) (t : Problem) (outcome : Outcome) (text : List ℕ) → IfSome exposed (λ files. IsTaskFile files task t)
+    → IsExplanation t looks outcome text → IsAnswerOver exposed (why task looks) outcome text
+explained-answer exposed task looks t outcome text file is =
+    over exposed (Unit {0}) (λ files. IsTaskFile files task t) (λ files. IsAnswer files (why task looks) outcome text) file tt (λ files there. explained task looks t outcome text there is)
+
 pub any-judged-answer : (exposed : Option Files) (task certificate : List ℕ) (t : Problem) (c : AnyListed) (outcome : Outcome) (text : List ℕ)
     → IfSome exposed (λ files. IsTaskFile files task t) → IfSome exposed (λ files. IsAnyFile files certificate t c)
     → IsAnyJudgement t c outcome text → IsAnswerOver exposed (check_any task certificate) outcome text
@@ -90,6 +96,13 @@ bad-best_task (BadInput line) exposed task looks wrong =
     over exposed (Unit {0}) (λ files. IsRefusedTask files task line.items) (λ files. IsBadInput files (best task looks) line.items) wrong tt (λ files is. bad_best_task task looks line.items is)
 bad-best_task ReadFault exposed task looks wrong = tt
 bad-best_task NoMemory exposed task looks wrong = tt
+
+pub bad-task_of_why : (halt : Halt) (exposed : Option Files) (task : List ℕ) (looks : ℕ) → IfBadInput halt (λ line. IfSome exposed (λ files. IsRefusedTask files task line))
+    → IfBadInput halt (IsBadInputOver exposed (why task looks))
+bad-task_of_why (BadInput line) exposed task looks wrong =
+    over exposed (Unit {0}) (λ files. IsRefusedTask files task line.items) (λ files. IsBadInput files (why task looks) line.items) wrong tt (λ files is. bad_task_of_why task looks line.items is)
+bad-task_of_why ReadFault exposed task looks wrong = tt
+bad-task_of_why NoMemory exposed task looks wrong = tt
 
 pub bad-task_of_any : (halt : Halt) (exposed : Option Files) (task certificate : List ℕ) → IfBadInput halt (λ line. IfSome exposed (λ files. IsRefusedTask files task line))
     → IfBadInput halt (IsBadInputOver exposed (check_any task certificate))

@@ -6,8 +6,8 @@ use Rattle.mass_units.proofs.SpellingLemmas.{digits_value-number_text}
 use Rattle.mass_units.specs.Spelling.{number_text}
 use Rattle.plan_commands.specs.Arguments.{FlightNames, Job, AskFor, usual_looks, usual_stop_budget}
 use Rattle.plan_answers.specs.Limits.{usual_budget, greatest_priced_budget}
-use Rattle.plan_commands.specs.Arguments.Job.{place, check, best, check_any, priced, check_priced, stops, transit, generate}
-use Rattle.plan_commands.specs.Arguments.AskFor.{place_usually, place_within, check_certificate, best_usually, best_within, check_best, priced_usually, priced_within, check_prices, stops_usually, stops_within, transit_usually, transit_within, transit_task, generate_load}
+use Rattle.plan_commands.specs.Arguments.Job.{place, check, best, why, check_any, priced, check_priced, stops, transit, generate}
+use Rattle.plan_commands.specs.Arguments.AskFor.{place_usually, place_within, check_certificate, best_usually, best_within, why_usually, why_within, check_best, priced_usually, priced_within, check_prices, stops_usually, stops_within, transit_usually, transit_within, transit_task, generate_load}
 use Rattle.transit_answers.specs.declared.answers.TransitQuestion.TheVariants.{BestPlan, TaskAround}
 
 -- the job that a name and one operand ask for, if they ask for one
@@ -15,6 +15,7 @@ one_operand : (name operand : List ℕ) → Job
 one_operand name operand =
     if bytes_eq name (codes "place") then place operand usual_budget
     else if bytes_eq name (codes "best") then best operand usual_looks
+    else if bytes_eq name (codes "why") then why operand usual_looks
     else if bytes_eq name (codes "priced") then priced operand greatest_priced_budget
     else if bytes_eq name (codes "stops") then stops operand usual_stop_budget
     else generate (digits_value 10 operand)
@@ -24,6 +25,7 @@ two_operands : (name task other : List ℕ) → Job
 two_operands name task other =
     if bytes_eq name (codes "place") then place task (digits_value 10 other)
     else if bytes_eq name (codes "best") then best task (digits_value 10 other)
+    else if bytes_eq name (codes "why") then why task (digits_value 10 other)
     else if bytes_eq name (codes "priced") then priced task (digits_value 10 other)
     else if bytes_eq name (codes "stops") then stops task (digits_value 10 other)
     else if bytes_eq name (codes "check") then check task other
@@ -54,6 +56,8 @@ asked-job arguments _ (place_within task n is low high) = rw is (read_number (pl
 asked-job arguments _ (check_certificate task certificate is) = rw is refl
 asked-job arguments _ (best_usually task is) = rw is refl
 asked-job arguments _ (best_within task n is low high) = rw is (read_number (best task) n)
+asked-job arguments _ (why_usually task is) = rw is refl
+asked-job arguments _ (why_within task n is low high) = rw is (read_number (why task) n)
 asked-job arguments _ (check_best task certificate is) = rw is refl
 asked-job arguments _ (priced_usually task is) = rw is refl
 asked-job arguments _ (priced_within task n is low high) = rw is (read_number (priced task) n)

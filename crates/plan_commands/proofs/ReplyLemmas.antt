@@ -1,5 +1,5 @@
 -- Replies to the arguments: there is one job for them, and its input is right or refused, never both.
-use Rattle.std.proofs.Common.{◌∙◌, ◌≡◌, ◌≢◌, ℕ, List, Option, Some, None, arith, refl, sym, subst}
+use Rattle.std.proofs.Common.{◌∙◌, ◌≡◌, ◌≢◌, ℕ, zero, suc, List, Option, Some, None, arith, refl, sym, subst}
 use Rattle.std.specs.Option.{IsSomeAnd}
 use Rattle.std.specs.Prelude.{All}
 use Rattle.std.proofs.lemmas.List.Elements.{All-weaker}
@@ -52,6 +52,10 @@ use Rattle.transit_answers.specs.TransitReply.{IsTransitPlacing, IsAnswerAbout, 
 use Rattle.transit_answers.specs.TransitReply.IsTransitPlacing.{plan as transit_plan, nothing_fits as transit_nothing_fits, over_budget as transit_over_budget}
 use Rattle.transit_answers.specs.TransitReply.IsAnswerAbout.{placed as placed_around, made}
 use Rattle.transit_answers.specs.declared.answers.TransitQuestion.{TransitQuestion}
+use Rattle.plan_reasons.specs.Explanation.{IsExplanation, outcome_of, outcome_with}
+use Rattle.plan_reasons.specs.WhyText.{unknown_in}
+use Rattle.plan_reasons.specs.declared.reasons.Why.{Why}
+use Rattle.plan_reasons.specs.declared.reasons.Why.TheVariants as explained_by
 use Rattle.plan_answers.specs.AnyReply.{AnyListed, IsAnyIn, IsAnyRefusal, IsAnyJudgement}
 use Rattle.plan_answers.specs.AnyReply.AnyListed.{of_cuts, of_trees}
 use Rattle.plan_answers.specs.AnyReply.IsAnyRefusal.{too_long as any_too_long, no_cuts, no_trees as none_of_trees}
@@ -59,8 +63,8 @@ use Rattle.plan_commands.specs.Reply.{IsTaskIn, IsRefusal, IsCertificateFile, Is
 use Rattle.plan_answers.specs.SummaryReply.{IsSummary}
 use Rattle.plan_commands.specs.Reply.IsRefusal.{too_long as task_too_long, no_task}
 use Rattle.plan_answers.specs.SummaryReply.IsSummary.{plan_summed, none_summed, budget_summed}
-use Rattle.plan_commands.specs.Reply.IsAnswer.{placed, judged, placed_by_trees, any_judged, placed_with_prices, prices_judged, placed_over_sectors, answered_in_transit, summed}
-use Rattle.plan_commands.specs.Reply.IsBadInput.{bad_task, bad_checked_task, bad_certificate, bad_best_task, bad_task_of_any, bad_any, bad_priced_task, bad_task_of_prices, bad_prices, bad_stops, bad_transit}
+use Rattle.plan_commands.specs.Reply.IsAnswer.{placed, judged, placed_by_trees, explained, any_judged, placed_with_prices, prices_judged, placed_over_sectors, answered_in_transit, summed}
+use Rattle.plan_commands.specs.Reply.IsBadInput.{bad_task, bad_checked_task, bad_certificate, bad_best_task, bad_task_of_why, bad_task_of_any, bad_any, bad_priced_task, bad_task_of_prices, bad_prices, bad_stops, bad_transit}
 use Rattle.plan_commands.specs.Reply.AreRefusedInTransit.{wrong_task, wrong_cpm, wrong_ldm, no_transit}
 use Rattle.plan_commands.specs.Reply.IsReply.{answered, refused, usage}
 use Rattle.plan_commands.specs.Reply.IsAnswered.{is_done, is_nothing_fits, is_over_budget, is_undecided, is_rejected}
@@ -179,6 +183,8 @@ right-not_bad files _ _ (bad_certificate task certificate t line there wrong) in
     (λ evidence whole refusal. certificate-not_refused t evidence line input.1 (names bytes t other) whole refusal))
 right-not_bad files _ _ (bad_best_task task looks line wrong) input =
     both (files task) (λ bytes. IsTaskIn bytes input.0) (λ bytes. IsRefusal bytes line) input.1 wrong (λ bytes right long. task-not_refused bytes line input.0 right long)
+right-not_bad files _ _ (bad_task_of_why task looks line wrong) input =
+    both (files task) (λ bytes. IsTaskIn bytes input.0) (λ bytes. IsRefusal bytes line) input.1 wrong (λ bytes right long. task-not_refused bytes line input.0 right long)
 right-not_bad files _ _ (bad_task_of_any task certificate line wrong) input =
     both (files task) (λ bytes. IsTaskIn bytes input.0) (λ bytes. IsRefusal bytes line) input.2 wrong (λ bytes right long. task-not_refused bytes line input.0 right long)
 right-not_bad files _ _ (bad_any task certificate t line there wrong) input =
@@ -226,6 +232,18 @@ tree-placing-answered t looks _ _ (near_plan path c best claim evidence back) = 
 tree-placing-answered t looks _ _ (nothing_near c none claim evidence back) = is_nothing_fits
 tree-placing-answered t looks _ _ (undecided more) = is_undecided
 
+counted-answered : (unknown : ℕ) → IsAnswered (outcome_with unknown)
+counted-answered zero = is_nothing_fits
+counted-answered (suc n) = is_undecided
+
+why-answered : (why : Why) → IsAnswered (outcome_of why)
+why-answered explained_by.Plan = is_done
+why-answered (explained_by.NoPlan reasons) = counted-answered (unknown_in reasons)
+why-answered (explained_by.Open reasons) = is_undecided
+
+pub explanation-answered : (t : Problem) (looks : ℕ) (outcome : Outcome) (text : List ℕ) → IsExplanation t looks outcome text → IsAnswered outcome
+explanation-answered t looks outcome text is = subst IsAnswered (sym is.outcome_is) (why-answered is.why)
+
 tree-judgement-answered : (t : Problem) (c : ListedTrees) (outcome : Outcome) (text : List ℕ) → IsTreeJudgement t c outcome text → IsAnswered outcome
 tree-judgement-answered t c _ _ (good_trees is so) = is_done
 tree-judgement-answered t c _ _ (rejected_trees reason line not_good first is) = is_rejected
@@ -267,6 +285,7 @@ answer-answered : (files : Files) (job : Job) (outcome : Outcome) (text : List �
 answer-answered files _ _ _ (placed task budget t outcome text file is) = placing-answered t budget outcome text is
 answer-answered files _ _ _ (judged task certificate t c outcome text file evidence is) = judgement-answered t c outcome text is
 answer-answered files _ _ _ (placed_by_trees task looks t outcome text file is) = tree-placing-answered t looks outcome text is
+answer-answered files _ _ _ (explained task looks t outcome text file is) = explanation-answered t looks outcome text is
 answer-answered files _ _ _ (any_judged task certificate t c outcome text file evidence is) = any-judgement-answered t c outcome text is
 answer-answered files _ _ _ (placed_with_prices task budget t outcome text file is) = priced-placing-answered t budget outcome text is
 answer-answered files _ _ _ (prices_judged task certificate t c outcome text file evidence is) = priced-judgement-answered t c outcome text is
@@ -278,6 +297,7 @@ answer-input : (files : Files) (job : Job) (outcome : Outcome) (text : List ℕ)
 answer-input files _ _ _ (placed task budget t outcome text file is) = (t, file)
 answer-input files _ _ _ (judged task certificate t c outcome text file evidence is) = (t, c, file, evidence)
 answer-input files _ _ _ (placed_by_trees task looks t outcome text file is) = (t, file)
+answer-input files _ _ _ (explained task looks t outcome text file is) = (t, file)
 answer-input files _ _ _ (any_judged task certificate t c outcome text file evidence is) = (t, c, file, evidence)
 answer-input files _ _ _ (placed_with_prices task budget t outcome text file is) = (t, file)
 answer-input files _ _ _ (prices_judged task certificate t c outcome text file evidence is) = (t, c, file, evidence)

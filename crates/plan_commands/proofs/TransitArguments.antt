@@ -6,7 +6,7 @@ use Rattle.aircraft_file.specs.Spellings.{spelled}
 use Rattle.flight_state.specs.Spellings.{is_station}
 use Rattle.plan_answers.specs.Limits.{greatest_budget}
 use Rattle.plan_commands.specs.Arguments.{Job, AskFor}
-use Rattle.plan_commands.specs.Arguments.AskFor.{place_usually, place_within, check_certificate, best_usually, best_within, check_best, priced_usually, priced_within, check_prices, stops_usually, stops_within, transit_usually, transit_within, transit_task, generate_load}
+use Rattle.plan_commands.specs.Arguments.AskFor.{place_usually, place_within, check_certificate, best_usually, best_within, why_usually, why_within, check_best, priced_usually, priced_within, check_prices, stops_usually, stops_within, transit_usually, transit_within, transit_task, generate_load}
 
 -- Stations --------------------------------------------------------------------------------------
 
@@ -39,7 +39,9 @@ five-operands name task cpm ldm station next _ (place_usually t is) = cc
 five-operands name task cpm ldm station next _ (place_within t n is low high) = cc
 five-operands name task cpm ldm station next _ (check_certificate t c is) = cc
 five-operands name task cpm ldm station next _ (best_usually t is) = cc
+five-operands name task cpm ldm station next _ (why_usually t is) = cc
 five-operands name task cpm ldm station next _ (best_within t n is low high) = cc
+five-operands name task cpm ldm station next _ (why_within t n is low high) = cc
 five-operands name task cpm ldm station next _ (check_best t c is) = cc
 five-operands name task cpm ldm station next _ (priced_usually t is) = cc
 five-operands name task cpm ldm station next _ (priced_within t n is low high) = cc
@@ -72,7 +74,9 @@ six-operands name task cpm ldm station next budget _ (place_usually t is) = cc
 six-operands name task cpm ldm station next budget _ (place_within t n is low high) = cc
 six-operands name task cpm ldm station next budget _ (check_certificate t c is) = cc
 six-operands name task cpm ldm station next budget _ (best_usually t is) = cc
+six-operands name task cpm ldm station next budget _ (why_usually t is) = cc
 six-operands name task cpm ldm station next budget _ (best_within t n is low high) = cc
+six-operands name task cpm ldm station next budget _ (why_within t n is low high) = cc
 six-operands name task cpm ldm station next budget _ (check_best t c is) = cc
 six-operands name task cpm ldm station next budget _ (priced_usually t is) = cc
 six-operands name task cpm ldm station next budget _ (priced_within t n is low high) = cc

@@ -14,7 +14,7 @@ arguments_of arguments = map string_bytes arguments
 abbrev pub BeginsWithMinus : List ℕ → Type 0
 BeginsWithMinus argument = take 1 argument ≡ codes "-"
 
--- how many choices a search by trees looks at if the arguments do not say it, and the greatest number
+-- how many choices a search by trees looks at, for each question, if the arguments do not say it, and the greatest number
 abbrev pub usual_looks : ℕ
 usual_looks = 20000
 
@@ -52,6 +52,8 @@ pub data Job : Type 0 where
   check : (task certificate : List ℕ) → Job
   -- the best placement of the task in a file by trees, with so many looks, or by the best-first search where these do not decide it
   best : (task : List ℕ) (looks : ℕ) → Job
+  -- why the task in a file has no plan, with so many looks for each question
+  why : (task : List ℕ) (looks : ℕ) → Job
   -- whether a certificate of either kind in a file is good for the task in another
   check_any : (task certificate : List ℕ) → Job
   -- the best placement of the task in a file by a search with prices, with a budget
@@ -80,6 +82,11 @@ pub data AskFor (arguments : List (List ℕ)) : Job → Type 0 where
   -- `best TASK LOOKS`
   best_within : (task : List ℕ) (looks : ℕ) → arguments ≡ codes "best" ∷ task ∷ number_text looks ∷ [] → 1 ≤ looks → looks ≤ greatest_looks
       → AskFor arguments (best task looks)
+  -- `why TASK`
+  why_usually : (task : List ℕ) → arguments ≡ codes "why" ∷ task ∷ [] → AskFor arguments (why task usual_looks)
+  -- `why TASK LOOKS`
+  why_within : (task : List ℕ) (looks : ℕ) → arguments ≡ codes "why" ∷ task ∷ number_text looks ∷ [] → 1 ≤ looks → looks ≤ greatest_looks
+      → AskFor arguments (why task looks)
   -- `bestcheck TASK CERTIFICATE`
   check_best : (task certificate : List ℕ) → arguments ≡ codes "bestcheck" ∷ task ∷ certificate ∷ []
       → AskFor arguments (check_any task certificate)

@@ -4,7 +4,7 @@ use Rattle.plan_commands.specs.declared.arguments.Command.{Command}
 use Rattle.plan_commands.specs.declared.arguments.Command.TheVariants as command
 use Rattle.std.specs.Prelude.{List, ℕ, Option, None, Some}
 use Rattle.plan_commands.specs.Arguments.{FlightNames, Job, IsCommand, AreInvalid}
-use Rattle.plan_commands.specs.Arguments.Job.{place, check, best, check_any, priced, check_priced, stops, transit, generate}
+use Rattle.plan_commands.specs.Arguments.Job.{place, check, best, why, check_any, priced, check_priced, stops, transit, generate}
 
 -- the names of a flight in transit as the arguments have them
 abbrev pub names_of : TransitNames → FlightNames
@@ -16,6 +16,7 @@ abbrev pub job_of : Command → Job
 job_of (command.Place task budget) = place task.now budget
 job_of (command.Check task certificate) = check task.now certificate.now
 job_of (command.Best task looks) = best task.now looks
+job_of (command.Why task looks) = why task.now looks
 job_of (command.CheckAny task certificate) = check_any task.now certificate.now
 job_of (command.Priced task budget) = priced task.now budget
 job_of (command.CheckPriced task certificate) = check_priced task.now certificate.now

@@ -12,11 +12,12 @@ use Rattle.load_io.specs.Shelf.{Files}
 use Rattle.task_answers.specs.declared.reply.Outcome.{Outcome}
 use Rattle.task_answers.specs.declared.reply.Outcome.TheVariants.{Done, Usage, BadInput, NothingFits, OverBudget, Undecided, Rejected}
 use Rattle.plan_commands.specs.Arguments.{FlightNames, Job, IsCommand, AreInvalid}
-use Rattle.plan_commands.specs.Arguments.Job.{place, check, best, check_any, priced, check_priced, stops, transit, generate}
+use Rattle.plan_commands.specs.Arguments.Job.{place, check, best, why, check_any, priced, check_priced, stops, transit, generate}
 use Rattle.plan_answers.specs.ReplyText.{IsFaultLine, long_text, usage_text}
 use Rattle.plan_answers.specs.Limits.{longest_task}
 use Rattle.plan_answers.specs.NearReply.{IsCertificateIn, IsCertificateRefusal, IsPlacing, IsJudgement}
 use Rattle.plan_answers.specs.TreeReply.{IsTreePlacing}
+use Rattle.plan_reasons.specs.Explanation.{IsExplanation}
 use Rattle.plan_answers.specs.PricedReply.{IsPricedIn, IsPricedRefusal, IsPricedPlacing, IsPricedJudgement}
 use Rattle.plan_answers.specs.StopReply.{IsStopsIn, IsStopRefusal, IsStopPlacing}
 use Rattle.plan_answers.specs.AnyReply.{AnyListed, IsAnyIn, IsAnyRefusal, IsAnyJudgement}
@@ -124,6 +125,8 @@ pub data IsAnswer (files : Files) : Job → Outcome → List ℕ → Type 0 wher
       → IsCertificateFile files certificate t c → IsJudgement t c outcome text → IsAnswer files (check task certificate) outcome text
   placed_by_trees : (task : List ℕ) (looks : ℕ) (t : Problem) (outcome : Outcome) (text : List ℕ) → IsTaskFile files task t
       → IsTreePlacing t looks outcome text → IsAnswer files (best task looks) outcome text
+  explained : (task : List ℕ) (looks : ℕ) (t : Problem) (outcome : Outcome) (text : List ℕ) → IsTaskFile files task t
+      → IsExplanation t looks outcome text → IsAnswer files (why task looks) outcome text
   any_judged : (task certificate : List ℕ) (t : Problem) (c : AnyListed) (outcome : Outcome) (text : List ℕ) → IsTaskFile files task t
       → IsAnyFile files certificate t c → IsAnyJudgement t c outcome text → IsAnswer files (check_any task certificate) outcome text
   placed_with_prices : (task : List ℕ) (budget : ℕ) (t : Problem) (outcome : Outcome) (text : List ℕ) → IsTaskFile files task t
@@ -143,6 +146,7 @@ pub data IsBadInput (files : Files) : Job → List ℕ → Type 0 where
   bad_certificate : (task certificate : List ℕ) (t : Problem) (line : List ℕ) → IsTaskFile files task t → IsRefusedCertificate files certificate t line
       → IsBadInput files (check task certificate) line
   bad_best_task : (task : List ℕ) (looks : ℕ) (line : List ℕ) → IsRefusedTask files task line → IsBadInput files (best task looks) line
+  bad_task_of_why : (task : List ℕ) (looks : ℕ) (line : List ℕ) → IsRefusedTask files task line → IsBadInput files (why task looks) line
   bad_task_of_any : (task certificate line : List ℕ) → IsRefusedTask files task line → IsBadInput files (check_any task certificate) line
   bad_any : (task certificate : List ℕ) (t : Problem) (line : List ℕ) → IsTaskFile files task t → IsRefusedAny files certificate t line
       → IsBadInput files (check_any task certificate) line
@@ -192,6 +196,7 @@ abbrev pub HasInput : Files → Job → Type 0
 HasInput files (place task budget) = (t : Problem) × IsTaskFile files task t
 HasInput files (check task certificate) = (t : Problem) × (c : Certificate) × IsTaskFile files task t × IsCertificateFile files certificate t c
 HasInput files (best task looks) = (t : Problem) × IsTaskFile files task t
+HasInput files (why task looks) = (t : Problem) × IsTaskFile files task t
 HasInput files (check_any task certificate) = (t : Problem) × (c : AnyListed) × IsTaskFile files task t × IsAnyFile files certificate t c
 HasInput files (priced task budget) = (t : Problem) × IsTaskFile files task t
 HasInput files (check_priced task certificate) = (t : Problem) × (c : PricedCertificate) × IsTaskFile files task t × IsPricedFile files certificate t c

@@ -56,6 +56,12 @@ pub enum Command<'a> {
         task: &'a str,
         looks: u32,
     },
+    /// `why TASK` or `why TASK LOOKS`: why the task in a file has no plan, by the search of `best`, which looks at so
+    /// many choices at most for each question.
+    Why {
+        task: &'a str,
+        looks: u32,
+    },
     /// `bestcheck TASK CERTIFICATE`: whether the certificate of either kind in a file is good for the task in another.
     CheckAny {
         task: &'a str,
@@ -121,7 +127,7 @@ fn number_from(argument: &str) -> Option<u32>
     read_long_number(argument.as_bytes())
 }
 
-/// `place TASK`, `best TASK`, `priced TASK`, `stops FILE`, or `gen NUMBER`.
+/// `place TASK`, `best TASK`, `why TASK`, `priced TASK`, `stops FILE`, or `gen NUMBER`.
 fn with_one_operand<'a>(name: &str, operand: &'a str) -> Option<Command<'a>>
     ensures some { IfSome result (λ command. AskFor (name.now ∷ operand.now ∷ []) (job_of command)) }
     ensures none { IfNone result ((job : Job) → AskFor (name.now ∷ operand.now ∷ []) job → ⊥) }
@@ -134,6 +140,12 @@ fn with_one_operand<'a>(name: &str, operand: &'a str) -> Option<Command<'a>>
     }
     if name == "best" {
         return Some(Command::Best {
+            task: operand,
+            looks: USUAL_LOOKS,
+        });
+    }
+    if name == "why" {
+        return Some(Command::Why {
             task: operand,
             looks: USUAL_LOOKS,
         });
@@ -157,8 +169,8 @@ fn with_one_operand<'a>(name: &str, operand: &'a str) -> Option<Command<'a>>
     None
 }
 
-/// `place TASK BUDGET`, `best TASK LOOKS`, `priced TASK BUDGET`, `stops FILE BUDGET`, or a check of a certificate in a
-/// file.
+/// `place TASK BUDGET`, `best TASK LOOKS`, `why TASK LOOKS`, `priced TASK BUDGET`, `stops FILE BUDGET`, or a check of a
+/// certificate in a file.
 fn with_two_operands<'a>(name: &str, task: &'a str, other: &'a str) -> Option<Command<'a>>
     ensures some { IfSome result
         (λ command. AskFor (name.now ∷ task.now ∷ other.now ∷ []) (job_of command)) }
@@ -171,6 +183,10 @@ fn with_two_operands<'a>(name: &str, task: &'a str, other: &'a str) -> Option<Co
     if name == "best" {
         let looks = effort_from(other, GREATEST_LOOKS)?;
         return Some(Command::Best { task, looks });
+    }
+    if name == "why" {
+        let looks = effort_from(other, GREATEST_LOOKS)?;
+        return Some(Command::Why { task, looks });
     }
     if name == "priced" {
         let budget = effort_from(other, GREATEST_PRICED_BUDGET)?;

@@ -16,6 +16,7 @@ use plan_answers::{
     Reply, judgement, judgement_of_any, judgement_of_prices, placement, placing_by_trees,
     placing_over_sectors, placing_with_prices, summary,
 };
+use plan_reasons::explanation;
 use std::alloc::Global;
 
 /// The answer to a command. Its files are read in the order of the arguments.
@@ -47,6 +48,10 @@ pub fn answer_to<F: Shelf, P: Placing>(
         Command::Best { task, looks } => {
             let task = task_from(alloc, shelf, task)?;
             Ok(placing_by_trees(alloc, &task, looks, placing)?)
+        }
+        Command::Why { task, looks } => {
+            let task = task_from(alloc, shelf, task)?;
+            Ok(explanation(alloc, &task, looks, placing)?)
         }
         Command::CheckAny { task, certificate } => {
             let task = task_from(alloc, shelf, task)?;

@@ -1,7 +1,7 @@
 use Rattle.plan_commands.proofs.FileLemmas.{IfErr-from_residual}
 use Rattle.plan_answers.specs.AnyReply.{any_listed}
-use Rattle.plan_commands.proofs.AnswerLemmas.{bad-task, bad-checked_task, bad-certificate, bad-best_task, bad-task_of_any, bad-any, bad-priced_task, bad-task_of_prices, bad-prices, bad-stops, placed-answer, judged-answer, placed-by_trees-answer, any-judged-answer, placed-with_prices-answer, prices-judged-answer, placed-over_sectors-answer, summed-answer}
-use Rattle.plan_commands.proofs.ReplyLemmas.{placing-answered, judgement-answered, tree-placing-answered, any-judgement-answered, priced-placing-answered, priced-judgement-answered, stop-placing-answered, summary-answered}
+use Rattle.plan_commands.proofs.AnswerLemmas.{bad-task, bad-checked_task, bad-certificate, bad-best_task, bad-task_of_why, bad-task_of_any, bad-any, bad-priced_task, bad-task_of_prices, bad-prices, bad-stops, placed-answer, judged-answer, placed-by_trees-answer, explained-answer, any-judged-answer, placed-with_prices-answer, prices-judged-answer, placed-over_sectors-answer, summed-answer}
+use Rattle.plan_commands.proofs.ReplyLemmas.{placing-answered, judgement-answered, tree-placing-answered, explanation-answered, any-judgement-answered, priced-placing-answered, priced-judgement-answered, stop-placing-answered, summary-answered}
 use Rattle.plan_commands.proofs.jobs.answer_to.Goals as goal
 
 pub returns-in_err-task-in-Place-clause-refused : goal.returns-in_err-task-in-Place-clause-refused
@@ -60,6 +60,13 @@ returns-in_err-task-in-Best-clause-refused g c =
     (IfErr-from_residual c.from_residual-in_err-task-in-Best.result halt _ c.from_residual-in_err-task-in-Best.ensures.1
     (bad-best_task halt (g.F.Shelf.files c.args.shelf.now) c.in-Best.task.now c.in-Best.looks c.in_err-task-in-Best.ensures.refused))
 
+pub returns-in_err-task-in-Why-clause-refused : goal.returns-in_err-task-in-Why-clause-refused
+returns-in_err-task-in-Why-clause-refused g c =
+    let halt = c.in_err-task-in-Why.field-0.0 in
+    rw c.in-Why.is
+    (IfErr-from_residual c.from_residual-in_err-task-in-Why.result halt _ c.from_residual-in_err-task-in-Why.ensures.1
+    (bad-task_of_why halt (g.F.Shelf.files c.args.shelf.now) c.in-Why.task.now c.in-Why.looks c.in_err-task-in-Why.ensures.refused))
+
 pub returns-in_err-task-in-CheckAny-clause-refused : goal.returns-in_err-task-in-CheckAny-clause-refused
 returns-in_err-task-in-CheckAny-clause-refused g c =
     let halt = c.in_err-task-in-CheckAny.field-0.0 in
@@ -79,6 +86,14 @@ pub returns-in_ok-placing_by_trees-in-Best-clause-answered : goal.returns-in_ok-
 returns-in_ok-placing_by_trees-in-Best-clause-answered g c =
     rw c.in-Best.is
     (placed-by_trees-answer (g.F.Shelf.files c.args.shelf.now) c.in-Best.task.now c.in-Best.looks c.in_ok-task-in-Best.task _ _ c.in_ok-task-in-Best.ensures.read c.in_ok-placing_by_trees-in-Best.ensures)
+
+pub returns-in_ok-explanation-in-Why-clause-answered : goal.returns-in_ok-explanation-in-Why-clause-answered
+returns-in_ok-explanation-in-Why-clause-answered g c =
+    rw c.in-Why.is
+    (explained-answer (g.F.Shelf.files c.args.shelf.now) c.in-Why.task.now c.in-Why.looks c.in_ok-task-in-Why.task _ _ c.in_ok-task-in-Why.ensures.read c.in_ok-explanation-in-Why.ensures)
+
+pub returns-in_ok-explanation-in-Why-clause-answers : goal.returns-in_ok-explanation-in-Why-clause-answers
+returns-in_ok-explanation-in-Why-clause-answers g c = explanation-answered _ _ _ _ c.in_ok-explanation-in-Why.ensures
 
 pub returns-in_ok-judgement_of_any-in-CheckAny-clause-answered : goal.returns-in_ok-judgement_of_any-in-CheckAny-clause-answered
 returns-in_ok-judgement_of_any-in-CheckAny-clause-answered g c =
