@@ -1,0 +1,4 @@
+pub mod Words
+pub mod Centre
+pub mod AircraftText
+pub mod Notes
