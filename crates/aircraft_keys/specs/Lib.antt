@@ -1,0 +1,4 @@
+pub mod Texts
+pub mod Grammar
+pub mod Skipped
+pub mod KeyNames
