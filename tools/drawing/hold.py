@@ -256,6 +256,8 @@ def what_is_said(task, answer):
     """The figures of a plan, or why there is none."""
     if answer.without == "NONE":
         return "NONE: no placement of all containers keeps every limit. Something has to give: the hold is still empty."
+    if answer.without == "NO PLAN YET":
+        return "no plan yet: the hold is still empty."
     if answer.without:
         kind, number = answer.without.split()
         why = "partial plans are near" if kind == "BUDGET" else "looks do not decide it"

@@ -129,7 +129,8 @@ class Answer:
         self.placed = []
         self.figures = {}
         lines = text.split("CERTIFICATE")[0].splitlines()
-        self.without = lines[0] if lines and re.fullmatch(r"NONE|(BUDGET|UNDECIDED) [0-9]+", lines[0]) else None
+        without = lines and re.fullmatch(r"NONE|NO PLAN YET|(BUDGET|UNDECIDED) [0-9]+", lines[0])
+        self.without = lines[0] if without else None
         if self.without:
             return
         if not lines or lines[0] != "PLAN":
